@@ -1,0 +1,3 @@
+pub mod InnerSequences
+pub mod NamedOnce
+pub mod NumberingLemmas

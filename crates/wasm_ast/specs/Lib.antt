@@ -1,0 +1,5 @@
+pub mod Numbering
+pub mod Opcodes
+pub mod Sections
+pub mod Shape
+pub mod Straight
