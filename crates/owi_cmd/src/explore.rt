@@ -50,18 +50,18 @@ pub fn explore(
     Ok(report_of_run(alloc, name, bounds, outcome)?)
 }
 
-fn export_name(module: &Module) -> &Text
-    requires { (name : Items ℕ) × (body : Items OneInstr) × (module.now ≡ straight_module name body) }
-    ensures { (name : Items ℕ) (body : Items OneInstr) → module.now ≡ straight_module name body → result.now ≡ name }
+fn export_name(straight: &Module) -> &Text
+    requires { (name : Items ℕ) × (body : Items OneInstr) × (straight.now ≡ straight_module name body) }
+    ensures { (name : Items ℕ) (body : Items OneInstr) → straight.now ≡ straight_module name body → result.now ≡ name }
 {
-    &module.exports.get(0).name
+    &straight.exports.get(0).name
 }
 
-fn body(module: &Module) -> &List<Instr>
-    requires { (name : Items ℕ) × (body : Items OneInstr) × (module.now ≡ straight_module name body) }
-    ensures { (name : Items ℕ) (body : Items OneInstr) → module.now ≡ straight_module name body → result.now ≡ body }
+fn body(straight: &Module) -> &List<Instr>
+    requires { (name : Items ℕ) × (body : Items OneInstr) × (straight.now ≡ straight_module name body) }
+    ensures { (name : Items ℕ) (body : Items OneInstr) → straight.now ≡ straight_module name body → result.now ≡ body }
 {
-    module.funcs.get(0).body.seqs.get(0)
+    straight.funcs.get(0).body.seqs.get(0)
 }
 
 fn entry_line(alloc: Global, name: &Text) -> Result<Vec<u8>, AllocError>
