@@ -1,3 +1,5 @@
+pub mod Leb
+pub mod LebReading
 pub mod Outside
 pub mod Memory
 pub mod System

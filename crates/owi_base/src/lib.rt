@@ -7,13 +7,20 @@
 //!
 //! [`read_all`] reads a source to its end, or until it has given one byte more than a limit. [`write_all`] writes all
 //! bytes, or tells how many stand before the fault.
+//!
+//! [`leb_u`] and [`leb_s`] read numbers in LEB128 exactly where they are spelled, and [`put_u`] and [`put_s`] put the
+//! shortest spelling.
 #![tactic(auto)]
 
+pub mod leb;
 pub mod memory;
 pub mod outside;
 pub mod system;
 pub mod transfer;
 
+pub use leb::LebBad;
+pub use leb::signed::{leb_s, put_s, read_put_s};
+pub use leb::unsigned::{leb_u, put_u, read_put_u};
 pub use memory::{MemSink, MemSource};
 pub use outside::{Failed, Sink, Source};
 pub use system::{InSource, OutSink};
