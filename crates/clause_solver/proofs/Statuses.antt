@@ -1,0 +1,52 @@
+-- What clauses are on a trail, a step at a time.
+use Rattle.std.proofs.Common.{◌≡◌, ◌<◌, ◌≤◌, ◌+◌, ℕ, zero, suc, List, [], ◌∷◌, length, drop, get_or, refl, sym, ap, ◌∙◌, arith}
+use Rattle.std.specs.Prelude.{Option, Some, None, slice_get}
+use Rattle.std.proofs.lemmas.Option.{slice_get-get_or}
+use Rattle.refute_check.specs.Machine.{Trail, True, Unset, value_of, Status, Falsified, Forces, Idle, status_with, status, falsified_with, falsified}
+
+-- a status with an unset literal before
+abbrev pub with_unset : Option ℕ → Status → Status
+with_unset None rest = rest
+with_unset (Some literal) rest = status_with Unset literal rest
+
+pub parts : {X : Type 0} (xs : List X) (i : ℕ) (d : X) → i < length xs → drop i xs ≡ get_or xs i d ∷ drop (i + 1) xs
+parts {X} xs i d l = go xs i l ∙ ap (λ i. get_or xs (at i) d ∷ drop i xs) plus
+  where
+    plus : suc i ≡ i + 1
+    plus = omega arith
+
+    at : ℕ → ℕ
+    at j = i
+
+    go : (xs : List X) (i : ℕ) → i < length xs → drop i xs ≡ get_or xs i d ∷ drop (suc i) xs
+    go [] i l = absurd (omega (arith, l))
+    go (x ∷ xs) zero l = refl
+    go (x ∷ xs) (suc i) l = go xs i (omega (arith, l))
+
+pub none_left : {X : Type 0} (xs : List X) (i : ℕ) → length xs ≤ i → drop i xs ≡ []
+none_left [] zero l = refl
+none_left [] (suc i) l = refl
+none_left (x ∷ xs) zero l = absurd (omega (arith, l))
+none_left (x ∷ xs) (suc i) l = none_left xs i (omega (arith, l))
+
+pub status_at : (t : Trail) (c : List ℕ) (i : ℕ) → i < length c → status t (drop i c) ≡ status_with (value_of t (get_or c i 0)) (get_or c i 0) (status t (drop (i + 1) c))
+status_at t c i l = ap (λ c. status t c) (parts c i 0 l)
+
+-- a true literal leaves nothing to do, and so do two unset ones
+pub seen_true : (o : Option ℕ) (l : ℕ) (s : Status) → with_unset o (status_with True l s) ≡ Idle
+seen_true None l s = refl
+seen_true (Some k) l s = refl
+
+pub seen_two : (k l : ℕ) (s : Status) → with_unset (Some k) (status_with Unset l s) ≡ Idle
+seen_two k l Falsified = refl
+seen_two k l (Forces m) = refl
+seen_two k l Idle = refl
+
+-- the clause at this place is falsified, and none before it is
+pub falsified_here : (t : Trail) (cs : List (List ℕ)) (i : ℕ) (c d : List ℕ) → i < length cs → c ≡ get_or cs i d → falsified t 0 cs ≡ falsified t i (drop i cs) → status t c ≡ Falsified →
+    (x : List ℕ) × (slice_get cs i ≡ Some x) × (falsified t 0 cs ≡ Some (i, x))
+falsified_here t cs i c d l e h s = (
+  c,
+  slice_get-get_or cs i d l ∙ ap (λ c. Some c) (sym e),
+  h ∙ ap (λ cs. falsified t i cs) (parts cs i d l ∙ ap (λ c. c ∷ drop (i + 1) cs) (sym e)) ∙ ap (λ s. falsified_with s (i, c) (falsified t (suc i) (drop (i + 1) cs))) s,
+)

@@ -1,0 +1,4 @@
+pub mod Seen
+pub mod Analysis
+pub mod Turned
+pub mod Answers

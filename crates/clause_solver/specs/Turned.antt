@@ -1,0 +1,16 @@
+-- The code's state and turns as the machine's.
+use Rattle.std.specs.Prelude.{◌≡◌}
+use Rattle.refute_check.specs.Machine as machine
+use Rattle.clause_solver.specs.declared.machine.State.{State}
+use Rattle.clause_solver.specs.declared.machine.Turned.{Turned}
+use Rattle.clause_solver.specs.declared.machine.Turned.TheVariants.{On, Model, Refuted, Spent}
+
+abbrev pub seen : State → machine.State
+seen state = record { clauses = state.clauses; trail = state.trail; log = state.log; conflicts = state.conflicts }
+
+-- what the turn came to, where this is the state after it
+abbrev pub IsTurn : Turned → State → machine.Turn → Type 0
+IsTurn On state turn = turn ≡ machine.On (seen state)
+IsTurn Model state turn = turn ≡ machine.Model state.trail
+IsTurn Refuted state turn = turn ≡ machine.Refuted state.log
+IsTurn Spent state turn = turn ≡ machine.Spent

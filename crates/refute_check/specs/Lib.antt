@@ -1,0 +1,7 @@
+pub mod Clauses
+pub mod Resolution
+pub mod Logs
+pub mod Alike
+pub mod Machine
+pub mod Orders
+pub mod Rising
