@@ -1,3 +1,4 @@
+pub mod Forms
 pub mod Leb
 pub mod LebReading
 pub mod Outside
