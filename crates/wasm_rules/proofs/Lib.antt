@@ -1,0 +1,4 @@
+pub mod NumbersLemmas
+pub mod AccessLemmas
+pub mod StoredLemmas
+pub mod LoadLemmas

@@ -1,0 +1,111 @@
+// Words that are plain numbers.
+use crate::{Access, Algebra, Drawer, Numbers, load_word, store_bytes};
+use std::alloc::AllocError;
+use std::test::Fail;
+
+// Draws from an input of one number.
+#[derive(Drop)]
+struct OneNumber {
+    number: u64,
+    drawn: u64,
+}
+
+impl Drawer<Numbers> for OneNumber {
+    ghost use Rattle.std.specs.Prelude.{◌≡◌, [], ◌∷◌};
+    ghost use Rattle.wasm_rules.specs.Words.{taken};
+
+    ghost symbol = { λ s _ K k wide. K.number (taken (s.number ∷ []) k wide) };
+
+    ghost inputs = { λ s input. input ≡ s.number ∷ [] };
+
+    ghost drawn = { λ s. s.drawn };
+
+    fn draw(&mut self, _algebra: &mut Numbers, wide: bool) -> Result<u64, AllocError> {
+        if self.drawn == u64::MAX {
+            return Err(AllocError);
+        }
+        let number = if self.drawn == 0 { self.number } else { 0 };
+        self.drawn += 1;
+        Ok(if wide { number } else { number % (1 << 32) })
+    }
+}
+
+fn draw_from<A: Algebra, D: Drawer<A>>(
+    algebra: &mut A,
+    drawer: &mut D,
+    wide: bool,
+) -> Result<A::Word, AllocError> {
+    drawer.draw(algebra, wide)
+}
+
+#[test]
+fn draws(rt: HostRuntime) -> Result<(), Fail> {
+    let mut input = OneNumber {
+        number: 0x7_0000_0005,
+        drawn: 0,
+    };
+    assert_eq!(rt; draw_from(&mut Numbers, &mut input, false)?, 5);
+    assert_eq!(rt; draw_from(&mut Numbers, &mut input, true)?, 0);
+    Ok(())
+}
+
+// What the load of the opcode makes of these bytes, where it takes so many.
+fn loaded(op: u8, bytes: &[u64]) -> Option<u64> {
+    match Access::load(op) {
+        Some(access) if bytes.len() == access.bytes as usize && bytes.iter().all(|b| *b < 256) => {
+            load_word(&mut Numbers, op, bytes).ok()
+        }
+        _ => None,
+    }
+}
+
+#[test]
+fn loads(rt: HostRuntime) {
+    let bytes = [0x80, 0xFF, 0x7F, 0x80, 0x01, 0x02, 0x03, 0x04];
+    for (op, count, want) in [
+        (0x28, 4, 0x807F_FF80),
+        (0x29, 8, 0x0403_0201_807F_FF80),
+        (0x2C, 1, 0xFFFF_FF80),
+        (0x2D, 1, 0x80),
+        (0x2E, 2, 0xFFFF_FF80),
+        (0x2F, 2, 0xFF80),
+        (0x30, 1, 0xFFFF_FFFF_FFFF_FF80),
+        (0x31, 1, 0x80),
+        (0x32, 2, 0xFFFF_FFFF_FFFF_FF80),
+        (0x33, 2, 0xFF80),
+        (0x34, 4, 0xFFFF_FFFF_807F_FF80),
+        (0x35, 4, 0x807F_FF80u64),
+    ] {
+        let count: usize = count;
+        if count <= 8 {
+            assert_eq!(rt; loaded(op, &bytes[..count]), Some(want), "{op}");
+        }
+    }
+}
+
+#[tactic(auto, unfolding(crate::specs::Accesses::store_of))]
+#[test]
+fn stores(rt: HostRuntime) -> Result<(), Fail> {
+    let mut out = [0; 4];
+    store_bytes(&mut Numbers, 0x36, 0x807F_FF80, &mut out)?;
+    assert_eq!(rt; out, [0x80, 0xFF, 0x7F, 0x80]);
+    let mut out = [0; 8];
+    store_bytes(&mut Numbers, 0x37, 0x0403_0201_807F_FF80, &mut out)?;
+    assert_eq!(rt; out, [0x80, 0xFF, 0x7F, 0x80, 1, 2, 3, 4]);
+    let mut out = [0; 2];
+    store_bytes(&mut Numbers, 0x3D, 0x0403_0201_807F_FF80, &mut out)?;
+    assert_eq!(rt; out, [0x80, 0xFF]);
+    Ok(())
+}
+
+#[test]
+fn numbers(rt: HostRuntime) -> Result<(), Fail> {
+    let mut numbers = Numbers;
+    let n = numbers.constant(0x3412);
+    assert_eq!(rt; numbers.number(n), Some(0x3412));
+    assert_eq!(rt; numbers.byte(n, 1)?, 0x34);
+    assert_eq!(rt; numbers.choose(false, 0, 1, 2)?, 2);
+    assert_eq!(rt; numbers.choose(true, 7, 1, 2)?, 1);
+    assert_eq!(rt; numbers.join(false, &[0x12, 0x34])?, 0x3412);
+    Ok(())
+}
