@@ -1,0 +1,4 @@
+pub mod BinaryLaws
+pub mod Examples
+pub mod GrammarLaws
+pub mod ModuleLaws

@@ -1,0 +1,9 @@
+pub mod Faults
+pub mod Instructions
+pub mod Locals
+pub mod Modules
+pub mod Parts
+pub mod Reading
+pub mod Sum
+pub mod Types
+pub mod Values
