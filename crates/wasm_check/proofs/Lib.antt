@@ -1,0 +1,12 @@
+mod Bodies
+mod EntryLemmas
+mod Examples
+mod Faults
+mod Labels
+mod ModuleLemmas
+mod Rules
+mod Signatures
+mod Stacks
+mod TreeLemmas
+mod Verdicts
+mod Walking

@@ -1,0 +1,12 @@
+pub mod Checker
+pub mod Constants
+pub mod Contexts
+pub mod Faults
+pub mod Instructions
+pub mod Modules
+pub mod Operands
+pub mod Operators
+pub mod Progress
+pub mod Spaces
+pub mod Trees
+pub mod Walk
