@@ -7,6 +7,7 @@
 
 mod analysis;
 pub mod answer;
+pub mod crossing;
 mod machine;
 mod resolution;
 mod rules;

@@ -6,6 +6,7 @@
 #![tactic(auto)]
 
 pub mod checker;
+pub mod crossing;
 pub mod formulas;
 pub mod items;
 pub mod laws;
