@@ -1,5 +1,5 @@
 // What words can do.
-ghost use Rattle.std.specs.Prelude.{◌≡◌, ℕ, ◌^◌, ◌<◌, List, Option, IsTrue, IfOk, IfSome, All, length, map};
+ghost use Rattle.std.specs.Prelude.{◌≡◌, ℕ, ◌^◌, ◌<◌, List, Option, IsTrue, Ok, IfOk, IfSome, All, length, map};
 ghost use Rattle.int_ops.specs.Operators.{is_unary, is_binary, operand_bits, result_bits, unary, total as total_of};
 ghost use Rattle.int_ops.specs.Bytes.{byte_of, joined};
 ghost use Rattle.wasm_rules.specs.Words.{Kind, Kept, HasSome, CanJoin, bits_where, chosen};
@@ -115,7 +115,7 @@ pub trait Algebra {
     ghost below: { (bits : ℕ) (m : Means) (input : List ℕ) → Has bits m → value input m < 2 ^ bits };
 }
 
-/// Plain numbers.
+/// Plain numbers. No call refuses: each gives the number that the operator gives.
 #[derive(Drop)]
 pub struct Numbers;
 
@@ -145,23 +145,48 @@ impl Algebra for Numbers {
         n
     }
 
-    fn un(&mut self, op: u8, a: u64) -> Result<u64, AllocError> {
+    fn un(&mut self, op: u8, a: u64) -> Result<u64, AllocError>
+        requires unary { IsTrue (is_unary op) }
+        requires a_width { HasNumber (operand_bits op) a }
+        ensures exact { result ≡ Ok (unary op a) }
+        ensures width { IfOk result (HasNumber (result_bits op)) }
+    {
         Ok(un(op, a))
     }
 
-    fn bin(&mut self, op: u8, a: u64, b: u64) -> Result<u64, AllocError> {
+    fn bin(&mut self, op: u8, a: u64, b: u64) -> Result<u64, AllocError>
+        requires binary { IsTrue (is_binary op) }
+        requires a_width { HasNumber (operand_bits op) a }
+        requires b_width { HasNumber (operand_bits op) b }
+        ensures exact { result ≡ Ok (total_of op a b) }
+        ensures width { IfOk result (HasNumber (result_bits op)) }
+    {
         Ok(total(op, a, b))
     }
 
-    fn choose(&mut self, _wide: bool, c: u64, a: u64, b: u64) -> Result<u64, AllocError> {
+    fn choose(&mut self, wide: bool, c: u64, a: u64, b: u64) -> Result<u64, AllocError>
+        requires a_width { HasNumber (bits_where wide) a }
+        requires b_width { HasNumber (bits_where wide) b }
+        ensures exact { result ≡ Ok (chosen c a b) }
+        ensures width { IfOk result (HasNumber (bits_where wide)) }
+    {
         Ok(if c == 0 { b } else { a })
     }
 
-    fn byte(&mut self, a: u64, i: u32) -> Result<u64, AllocError> {
+    fn byte(&mut self, a: u64, i: u32) -> Result<u64, AllocError>
+        requires place { i < 8 }
+        ensures exact { result ≡ Ok (byte_of a i) }
+        ensures width { IfOk result (HasNumber 8) }
+    {
         Ok(byte(a, i))
     }
 
-    fn join(&mut self, _wide: bool, bytes: &[u64]) -> Result<u64, AllocError> {
+    fn join(&mut self, wide: bool, bytes: &[u64]) -> Result<u64, AllocError>
+        requires count { CanJoin wide (length bytes.now) }
+        requires bytes_width { All (HasNumber 8) bytes.now }
+        ensures exact { result ≡ Ok (joined bytes.now) }
+        ensures width { IfOk result (HasNumber (bits_where wide)) }
+    {
         Ok(join(bytes))
     }
 

@@ -1,13 +1,9 @@
-use Rattle.std.proofs.Common.{ℕ, ◌^◌, ◌<◌, subst, sym, ap, ◌∙◌, map-id}
-use Rattle.int_ops.specs.Bytes.{joined}
+use Rattle.std.proofs.Common.{ℕ, ◌^◌, ◌<◌, subst, sym}
 use Rattle.wasm_rules.specs.Words.{bits_where}
 use Rattle.wasm_rules.proofs.NumbersLemmas.{joined-fits}
 use Rattle.wasm_rules.proofs.algebra.NumbersAlgebra.join.Goals as goal
 
 pub returns-clause-width : goal.returns-clause-width
 returns-clause-width c =
-    subst (λ (n : ℕ). n < 2 ^ bits_where c.args._wide) (sym c.join.ensures)
-    (joined-fits c.args._wide c.args.bytes.now c.requires.count c.requires.bytes_width)
-
-pub returns-clause-value : goal.returns-clause-value
-returns-clause-value c = λ input. c.join.ensures ∙ ap joined (sym (map-id c.args.bytes.now))
+    subst (λ (n : ℕ). n < 2 ^ bits_where c.args.wide) (sym c.join.ensures)
+    (joined-fits c.args.wide c.args.bytes.now c.requires.count c.requires.bytes_width)
