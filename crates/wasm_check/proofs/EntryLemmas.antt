@@ -1,14 +1,13 @@
 -- An entry is valid where its rule holds of it.
-use Rattle.std.proofs.Common.{◌≡◌, ℕ, ◌+◌, ◌<◌, List, sym, ap, ◌∙◌, subst, arith, inl, inr}
+use Rattle.std.proofs.Common.{◌≡◌, ℕ, ◌+◌, ◌<◌, List, sym, subst, arith, inl, inr}
 use Rattle.std.specs.Prelude.{Bool, true, false, Some, IsTrue, ◌↔◌, slice_get}
 use Rattle.std.proofs.lemmas.Bool.{cases_eq}
 use Rattle.std.proofs.lemmas.Option.{slice_get_within}
-use Rattle.wasm_ast.specs.declared.modules.Export.{Export}
 use Rattle.wasm_ast.specs.declared.modules.Module.{Module}
 use Rattle.wasm_check.specs.declared.sections.Section.{Section}
 use Rattle.wasm_check.specs.declared.sections.Section.TheVariants.{Imports, Functions, Tables, Memories, Globals, Exports, Start, Elements, Code, Data}
 use Rattle.wasm_check.specs.Faults.{IsFirstOf}
-use Rattle.wasm_check.specs.Modules.{OfEntry, EntryIsValid, SectionIsValid, IsNewName}
+use Rattle.wasm_check.specs.Modules.{OfEntry, EntryIsValid, SectionIsValid}
 use Rattle.wasm_check.specs.Spaces.{section_size}
 
 same-entry : {A : Type 0} (x y : A) → Some x ≡ Some y → x ≡ y
@@ -44,12 +43,3 @@ all_valid m Start h = λ k x at e. h k (omega (arith, at)) x at e
 all_valid m Elements h = λ k x e. h k (slice_get_within m.elems k x e) x e
 all_valid m Code h = λ k x e. h k (slice_get_within m.funcs k x e) x e
 all_valid m Data h = λ k x e. h k (slice_get_within m.segments k x e) x e
-
--- one more export of another name
-pub new_name_more : (m : Module) (j : ℕ) (e other : Export) → slice_get m.exports j ≡ Some other → (other.name ≡ e.name → ⊥) → IsNewName m j e → IsNewName m (j + 1) e
-new_name_more m j e other at differs new i x lt there = elim (cases_eq i j) [
-  | inl same ↦
-      let both : Some other ≡ Some x = sym at ∙ ap (λ n. slice_get m.exports n) (sym same) ∙ there in
-      subst (λ (x : Export). x.name ≡ e.name → ⊥) (same-entry other x both) differs
-  | inr ne ↦ new i x (omega arith) there
-]

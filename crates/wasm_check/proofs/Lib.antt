@@ -1,9 +1,15 @@
+mod Alignment
 mod Bodies
+mod ContextLemmas
 mod EntryLemmas
 mod Examples
+mod FaultLemmas
 mod Faults
 mod Labels
+mod LocalLemmas
+mod MarkLemmas
 mod ModuleLemmas
+mod NameLemmas
 mod Rules
 mod Signatures
 mod Stacks

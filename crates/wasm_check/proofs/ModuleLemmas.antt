@@ -1,5 +1,5 @@
 -- Of modules: sections in the order of their ids, and that a first fault leaves a module invalid.
-use Rattle.std.proofs.Common.{◌≡◌, ℕ, ◌+◌, ◌<◌, drop, refl, sym, ap, ◌∙◌, subst, arith, inl, inr}
+use Rattle.std.proofs.Common.{◌≡◌, ℕ, ◌+◌, drop, refl, sym, ap, ◌∙◌, subst, arith, inl, inr}
 use Rattle.std.specs.Prelude.{Some, ◌==◌, if◌then◌else◌}
 use Rattle.std.proofs.lemmas.Bool.{cases_eq}
 use Rattle.std.proofs.lemmas.List.{take-append-drop}
@@ -11,7 +11,7 @@ use Rattle.wasm_check.specs.declared.why.Why.TheVariants.{Field, Code as InCode,
 use Rattle.wasm_check.specs.declared.sections.Section.{Section}
 use Rattle.wasm_check.specs.declared.sections.Section.TheVariants.{Imports, Functions, Tables, Memories, Globals, Exports, Start, Elements, Code, Data}
 use Rattle.wasm_check.specs.Contexts.{context_of}
-use Rattle.wasm_check.specs.Faults.{section_id, BodyFailsAt, FirstFault}
+use Rattle.wasm_check.specs.Faults.{ValidBelow, section_id, BodyFailsAt, FirstFault}
 use Rattle.wasm_check.specs.Instructions.{IsValidBody}
 use Rattle.wasm_check.specs.Modules.{SectionIsValid, BodyIsValid, IsValid}
 use Rattle.wasm_check.specs.Trees.{Tree, seq_of, body_tokens}
@@ -42,10 +42,6 @@ section_at-id Data = refl
 -- each section has an id of its own
 pub same-section : (r s : Section) → section_id r ≡ section_id s → r ≡ s
 same-section r s e = sym (section_at-id r) ∙ ap section_at e ∙ section_at-id s
-
--- the sections with ids below this one are valid
-abbrev pub ValidBelow : Module → ℕ → Type 0
-ValidBelow m id = (r : Section) → section_id r < id → SectionIsValid m r
 
 pub valid_below-first : (m : Module) → ValidBelow m 2
 valid_below-first m Imports lt = absurd (omega (arith, lt))

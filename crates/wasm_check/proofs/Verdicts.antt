@@ -8,11 +8,11 @@ use Rattle.wasm_check.specs.Contexts.{Context}
 use Rattle.wasm_check.specs.declared.walk.Place.{Place}
 use Rattle.wasm_check.specs.declared.walk.Written.{Written}
 use Rattle.wasm_check.specs.declared.walk.Written.TheVariants.{Instruction, Other, End, Over}
-use Rattle.wasm_check.specs.Trees.{Tree, Token, Else, Ends, seq_of, Makes, IsTreeOf, body_tokens}
+use Rattle.wasm_check.specs.Trees.{Tree, Token, Else, Ends, seq_of, Makes, body_tokens}
 use Rattle.wasm_check.specs.Instructions.{IsValidBody}
 use Rattle.wasm_check.specs.Faults.{IsFirstFault}
 use Rattle.wasm_check.specs.Checker.{Open, reads, fault, fault_after, later, start_of, SomeBy}
-use Rattle.wasm_check.specs.Progress.{IsWritten, after, HasCome}
+use Rattle.wasm_check.specs.Progress.{IsWritten, after, HasCome, IsFoundIn, BodyPasses, BodyStopsAt}
 use Rattle.wasm_check.specs.Walk.{Left, NextIs, token_of}
 use Rattle.wasm_check.proofs.TreeLemmas.{HasTree, tree-of}
 use Rattle.wasm_check.proofs.Faults.{passed-valid, named-first, valid-passed}
@@ -53,9 +53,6 @@ come-on C seqs ps qs os next at w h k n r c b =
       g.3 ∙ ap (λ l. after at (fault C l os)) v.2 ∙ ap (λ o. after at (fault_after o (fault C v.1))) (r v.0 v.3) ∙ after-later at (fault C v.1 next),
     )
 
-abbrev pub Found : Context → List (List Instr) → Option ℕ → Type 0
-Found C seqs r = (c : Tree) → Makes seqs (seq_of seqs 0) c → length (body_tokens c) < 2 ^ 64 - 1 → fault C (body_tokens c) (start_of C) ≡ r
-
 pub come-fault : (C : Context) (seqs : List (List Instr)) (ps qs : List Place) (os next : List Open) (at : ℕ) (w : Written) → HasCome C seqs ps os at → Walks seqs w ps qs → (w ≡ Over → ⊥) → Reads C seqs w false os next →
     (c : Tree) → Makes seqs (seq_of seqs 0) c → length (body_tokens c) < 2 ^ 64 - 1 → fault C (body_tokens c) (start_of C) ≡ Some at
 come-fault C seqs ps qs os next at w h k n r c b short =
@@ -84,13 +81,7 @@ pub found-first : (C : Context) (seqs : List (List Instr)) (r : Option ℕ) → 
 found-first C seqs r h c b short at e = named-first C c at (h c b short ∙ e)
 
 -- what is found of the body of an expression with shape: it is valid, or its first fault is at this place
-abbrev pub BodyPasses : Context → Expr → Type 0
-BodyPasses C e = (c : Tree) × IsTreeOf e c × IsValidBody C c
-
-abbrev pub BodyStopsAt : Context → Expr → ℕ → Type 0
-BodyStopsAt C e at = (c : Tree) × IsTreeOf e c × IsFirstFault C (body_tokens c) at
-
-pub found : (C : Context) (e : Expr) (r : Option ℕ) → ExprHasShape e → Found C e.seqs r → MatchOption r (BodyPasses C e) (BodyStopsAt C e)
+pub found : (C : Context) (e : Expr) (r : Option ℕ) → ExprHasShape e → IsFoundIn C e.seqs r → MatchOption r (BodyPasses C e) (BodyStopsAt C e)
 found C e None shape h =
     let t : HasTree e = tree-of e shape in
     (t.0, t.1, passed-valid C t.0 (h t.0 t.1 t.2))

@@ -52,10 +52,14 @@ pub record IsFirstOf (m : Module) (s : Section) (k : ℕ) : Type 0 where
   pub invalid : EntryIsValid m s k → ⊥
   pub before : (j : ℕ) → j < k → EntryIsValid m s j
 
+-- the sections of lower ids are valid
+abbrev pub ValidBelow : Module → ℕ → Type 0
+ValidBelow m id = (r : Section) → section_id r < id → SectionIsValid m r
+
 -- of the module: the sections before it are valid too
 pub record IsFirstInvalid (m : Module) (s : Section) (k : ℕ) : Type 0 where
   pub first : IsFirstOf m s k
-  pub sections_before : (r : Section) → section_id r < section_id s → SectionIsValid m r
+  pub sections_before : ValidBelow m (section_id s)
 
 -- It tells the first fault of the module: a section by its id and an entry of it, or a function, imports counted, and a
 -- place in its body.

@@ -3,6 +3,7 @@ pub mod Constants
 pub mod Contexts
 pub mod Faults
 pub mod Instructions
+pub mod Kept
 pub mod Modules
 pub mod Operands
 pub mod Operators

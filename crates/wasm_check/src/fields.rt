@@ -1,19 +1,20 @@
 // The first fault of a module outside its functions' bodies.
-ghost use Rattle.std.specs.Prelude.{◌≡◌, ◌≢◌, ◌↔◌, ◌<◌, ◌≤◌, ◌^◌, IsTrue, MatchOption, length};
+ghost use Rattle.std.specs.Prelude.{◌≡◌, ◌≢◌, ◌↔◌, ◌<◌, ◌≤◌, ◌^◌, IsTrue, IfOk, MatchOption, length};
 ghost use Rattle.wasm_check.specs.declared.sections.Section.TheVariants.{Imports, Functions, Tables, Memories, Globals, Exports, Start, Elements, Code, Data};
-ghost use Rattle.wasm_check.specs.Modules.{EntryIsValid, SectionIsValid, IsNewName, ExportIsValid};
+ghost use Rattle.wasm_check.specs.Modules.{EntryIsValid, SectionIsValid};
 ghost use Rattle.wasm_check.specs.Faults.{IsFirstOf};
 ghost use Rattle.wasm_check.specs.Spaces.{AreSpacesOf, section_size as section_size_of};
 
 use crate::entries::{
-    elem_is_valid, export_is_there, func_is_valid, global_is_valid, import_is_valid,
-    memory_is_valid, segment_is_valid, start_is_valid,
+    elem_is_valid, func_is_valid, global_is_valid, import_is_valid, memory_is_valid,
+    segment_is_valid, start_is_valid,
 };
+use crate::exports::first_invalid_export;
 use crate::limits::is_table_type;
 use crate::sections::Section;
 use crate::spaces::Spaces;
-use wasm_ast::equals::Same;
-use wasm_ast::{Export, Module};
+use std::alloc::{AllocError, Global};
+use wasm_ast::Module;
 
 fn import_entry(m: &Module, k: usize) -> bool
     requires { k < length m.now.imports }
@@ -74,37 +75,6 @@ fn data_entry(m: &Module, spaces: &Spaces, k: usize) -> bool
     segment_is_valid(m, spaces, segment)
 }
 
-// Whether no export before the entry `k` has its name.
-fn name_is_new(m: &Module, k: usize, export: &Export) -> bool
-    requires { k ≤ length m.now.exports }
-    ensures { IsTrue result ↔ IsNewName m.now k export.now }
-{
-    for j in 0..k {
-        let other = m.exports.get(j);
-        if other.name.same(&export.name) {
-            return false;
-        }
-    }
-    true
-}
-
-fn export_is_valid(m: &Module, spaces: &Spaces, k: usize, export: &Export) -> bool
-    requires spaces { AreSpacesOf m.now spaces.now }
-    requires here { k ≤ length m.now.exports }
-    ensures { IsTrue result ↔ ExportIsValid m.now k export.now }
-{
-    export_is_there(m, spaces, export) && name_is_new(m, k, export)
-}
-
-fn export_entry(m: &Module, spaces: &Spaces, k: usize) -> bool
-    requires spaces { AreSpacesOf m.now spaces.now }
-    requires here { k < length m.now.exports }
-    ensures { IsTrue result ↔ EntryIsValid m.now Exports k }
-{
-    let export = m.exports.get(k);
-    export_is_valid(m, spaces, k, export)
-}
-
 fn start_entry(m: &Module, spaces: &Spaces) -> bool
     requires { AreSpacesOf m.now spaces.now }
     ensures { IsTrue result ↔ EntryIsValid m.now Start 0 }
@@ -119,6 +89,7 @@ fn entry_is_valid(m: &Module, spaces: &Spaces, s: Section, k: usize) -> bool
     requires spaces { AreSpacesOf m.now spaces.now }
     requires here { k < section_size_of m.now s }
     requires field { s ≢ Code }
+    requires other { s ≢ Exports }
     ensures { IsTrue result ↔ EntryIsValid m.now s k }
 {
     match s {
@@ -127,7 +98,7 @@ fn entry_is_valid(m: &Module, spaces: &Spaces, s: Section, k: usize) -> bool
         Section::Tables => table_entry(m, k),
         Section::Memories => memory_entry(m, k),
         Section::Globals => global_entry(m, spaces, k),
-        Section::Exports => export_entry(m, spaces, k),
+        Section::Exports => unreachable!(),
         Section::Start => start_entry(m, spaces),
         Section::Elements => elem_entry(m, spaces, k),
         Section::Code => unreachable!(),
@@ -152,10 +123,11 @@ fn section_size(m: &Module, s: Section) -> usize
     }
 }
 
-/// The first entry of the section that isn't valid. Bodies aren't looked at.
-pub fn first_invalid(m: &Module, spaces: &Spaces, s: Section) -> Option<u32>
+// The first entry that isn't valid, of a section whose entries are judged alone.
+fn first_entry(m: &Module, spaces: &Spaces, s: Section) -> Option<u32>
     requires spaces { AreSpacesOf m.now spaces.now }
     requires field { s ≢ Code }
+    requires other { s ≢ Exports }
     requires short { section_size_of m.now s < 2 ^ 32 }
     ensures { MatchOption result (SectionIsValid m.now s) (IsFirstOf m.now s) }
 {
@@ -165,4 +137,22 @@ pub fn first_invalid(m: &Module, spaces: &Spaces, s: Section) -> Option<u32>
         }
     }
     None
+}
+
+/// The first entry of the section that isn't valid. Bodies aren't looked at.
+pub fn first_invalid(
+    alloc: Global,
+    m: &Module,
+    spaces: &Spaces,
+    s: Section,
+) -> Result<Option<u32>, AllocError>
+    requires spaces { AreSpacesOf m.now spaces.now }
+    requires field { s ≢ Code }
+    requires short { section_size_of m.now s < 2 ^ 32 }
+    ensures { IfOk result (λ r. MatchOption r (SectionIsValid m.now s) (IsFirstOf m.now s)) }
+{
+    match s {
+        Section::Exports => Ok(first_invalid_export(alloc, m, spaces)?),
+        _ => Ok(first_entry(m, spaces, s)),
+    }
 }

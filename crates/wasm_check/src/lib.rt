@@ -1,24 +1,40 @@
-// Validation of WebAssembly modules.
+// Validation of WebAssembly modules: `check` tells whether a well-formed module is valid, and names the first fault of one
+// that isn't.
 //
 // What is valid is defined in specs/, to be read beside the chapter Validation of the WebAssembly Core Specification 2.0:
 // `Operands` (the types of operands), `Operators` (types by opcode), `Trees` (sequences of instructions inside one
 // another), `Contexts`, `Instructions` (one rule an instruction, and typing of sequences), `Constants`, `Modules` (when
-// a module is valid) and `Faults` (which fault of a module is its first). `Checker`, `Walk`, `Progress` and `Spaces` are
-// of the code alone: that the checker of bodies passes the valid ones, and stops at the first fault of the others, is
-// proved in proofs/.
+// a module is valid) and `Faults` (which fault of a module is its first). `Checker`, `Walk`, `Progress`, `Spaces` and
+// `Kept` are of the code alone. That the checker of bodies passes the valid ones, and stops at the first fault of the
+// others, is proved in proofs/.
 #![tactic(auto)]
 
-pub mod act;
-pub mod constants;
-pub mod entries;
-pub mod fields;
-pub mod limits;
-pub mod open;
-pub mod operands;
-pub mod sections;
+mod act;
+mod body;
+mod calls;
+mod checked;
+mod constants;
+pub mod crossing;
+mod declared;
+mod entries;
+mod exports;
+mod fields;
+mod functions;
+mod limits;
+mod locals;
+mod memories;
+mod numbers;
+mod open;
+mod operands;
+mod plain;
+mod scope;
+mod sections;
 pub mod spaces;
-pub mod stack;
-pub mod walk;
+mod stack;
+mod tables;
+mod variables;
+mod walk;
 mod why;
 
+pub use checked::{Checked, Unchecked, check};
 pub use why::Why;

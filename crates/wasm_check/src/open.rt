@@ -53,22 +53,22 @@ fn each<'a>(
     wanted: &[ValType],
     labels: &[u32],
     s: &Stack,
-) -> Result<bool, AllocError>
-    ensures { IfOk result (λ b. SomeBy b (each_fits (own.now ∷ labels_of (reverse outer.now)) wanted.now labels.now s.now.dead s.now.ops) s.now.ops) }
+) -> bool
+    ensures { SomeBy result (each_fits (own.now ∷ labels_of (reverse outer.now)) wanted.now labels.now s.now.dead s.now.ops) s.now.ops }
 {
     for k in labels {
         let Some(these) = label_of(own, outer, *k) else {
-            return Ok(false);
+            return false;
         };
         if these.len() != wanted.len() {
-            return Ok(false);
+            return false;
         }
-        let mut copy = s.copy()?;
-        if !copy.take_all(these) {
-            return Ok(false);
+        let mut rest = s.peek();
+        if !rest.take_all(these) {
+            return false;
         }
     }
-    Ok(true)
+    true
 }
 
 /// `br_table`
@@ -78,34 +78,34 @@ pub fn choose<'a>(
     labels: &[u32],
     last: u32,
     s: &mut Stack,
-) -> Result<bool, AllocError>
-    ensures { IfOk result (λ b. (C : Context) → Answers b (acts_of C (own.now ∷ labels_of (reverse outer.now)) (BrTable labels.now last) s.old) s.new) }
+) -> bool
+    ensures { (C : Context) → Answers result (acts_of C (own.now ∷ labels_of (reverse outer.now)) (BrTable labels.now last) s.old) s.new }
 {
     if !s.take(ValType::I32) {
-        return Ok(false);
+        return false;
     }
     let Some(wanted) = label_of(own, outer, last) else {
-        return Ok(false);
+        return false;
     };
-    if !each(own, outer, wanted, &[last], s)? {
-        return Ok(false);
+    if !each(own, outer, wanted, &[last], s) {
+        return false;
     }
-    if !each(own, outer, wanted, labels, s)? {
-        return Ok(false);
+    if !each(own, outer, wanted, labels, s) {
+        return false;
     }
     s.kill();
-    Ok(true)
+    true
 }
 
 // Whether a sequence with these results may end with these operands.
-fn finished(results: &[ValType], s: &Stack) -> Result<bool, AllocError>
-    ensures { IfOk result (λ b. (go : Option (List Open)) → finished_of results.now s.now go ≡ when b go) }
+fn finished(results: &[ValType], s: &Stack) -> bool
+    ensures { (go : Option (List Open)) → finished_of results.now s.now go ≡ when result go }
 {
-    let mut copy = s.copy()?;
-    if !copy.take_all(results) {
-        return Ok(false);
+    let mut rest = s.peek();
+    if !rest.take_all(results) {
+        return false;
     }
-    Ok(copy.is_empty())
+    rest.is_empty()
 }
 
 fn fresh(alloc: Global, types: &[ValType]) -> Result<Stack, AllocError>
@@ -183,7 +183,7 @@ pub fn turns<'a>(
     if !o.first {
         return Ok(false);
     }
-    if !finished(o.results, &o.stack)? {
+    if !finished(o.results, &o.stack) {
         return Ok(false);
     }
     let stack = fresh(alloc, o.params)?;
@@ -205,7 +205,7 @@ fn other_finished(alloc: Global, o: &OpenSeq) -> Result<bool, AllocError>
         return Ok(true);
     }
     let stack = fresh(alloc, o.params)?;
-    Ok(finished(o.results, &stack)?)
+    Ok(finished(o.results, &stack))
 }
 
 /// `end`
@@ -216,7 +216,7 @@ pub fn ends<'a>(
 ) -> Result<bool, AllocError>
     ensures { IfOk result (λ b. SomeBy b (ends_of o.entry (reverse seqs.old.items)) (reverse seqs.new.items)) }
 {
-    if !finished(o.results, &o.stack)? {
+    if !finished(o.results, &o.stack) {
         return Ok(false);
     }
     if !other_finished(alloc, &o)? {

@@ -26,7 +26,8 @@ impl Model for Stack {
     ghost view = { λ s. record { dead = s.dead; ops = reverse s.items.items } };
 }
 
-fn same(t: ValType, u: ValType) -> bool
+/// Whether the types are one.
+pub fn same(t: ValType, u: ValType) -> bool
     ensures { result ≡ same_type t u }
 {
     match t {
@@ -57,15 +58,14 @@ impl Stack {
         }
     }
 
-    /// An equal stack.
-    pub fn copy(&self) -> Result<Stack, AllocError>
-        ensures { IfOk result (λ c. c ≡ self.now) }
+    /// The operands, to be taken off without a change of the stack.
+    pub fn peek(&self) -> Peek<'_>
+        ensures { result ≡ self.now }
     {
-        let items = self.items.clone()?;
-        Ok(Stack {
+        Peek {
             dead: self.dead,
-            items,
-        })
+            items: self.items.as_slice(),
+        }
     }
 
     /// Puts an operand on top.
@@ -90,13 +90,6 @@ impl Stack {
                 }
             }
         }
-    }
-
-    /// Whether no operand is known.
-    pub fn is_empty(&self) -> bool
-        ensures { result ≡ no_operands self.now.ops }
-    {
-        self.items.is_empty()
     }
 
     /// After an unconditional branch.
@@ -137,5 +130,71 @@ impl Stack {
             self.push(Operand::Of(*t))?;
         }
         Ok(())
+    }
+}
+
+/// The operands of a stack, to be taken off without a change of the stack.
+#[derive(Drop)]
+pub struct Peek<'a> {
+    dead: bool,
+    items: &'a [Operand],
+}
+
+impl<'a> Model for Peek<'a> {
+    ghost use Rattle.std.specs.Prelude.{reverse};
+    ghost use Rattle.wasm_check.specs.Checker.{Stack as KnownOperands};
+
+    ghost Value = { KnownOperands };
+
+    ghost view = { λ p. record { dead = p.dead; ops = reverse p.items.now } };
+}
+
+impl<'a> Peek<'a> {
+    /// Takes the last operand. Below the last one after an unconditional branch there are others of any type.
+    pub fn pop(&mut self) -> Option<Operand>
+        ensures { MatchOption result (pop_of self.old ≡ None) (λ t. pop_of self.old ≡ Some (t, self.new)) }
+    {
+        match self.items {
+            [rest @ .., t] => {
+                self.items = rest;
+                Some(*t)
+            }
+            [] => {
+                if self.dead {
+                    Some(Operand::Bottom)
+                } else {
+                    None
+                }
+            }
+        }
+    }
+
+    /// Whether no operand is known.
+    pub fn is_empty(&self) -> bool
+        ensures { result ≡ no_operands self.now.ops }
+    {
+        self.items.is_empty()
+    }
+
+    /// Takes an operand that matches the type.
+    pub fn take(&mut self, t: ValType) -> bool
+        ensures { Answers result (popped (Operand.Of t ∷ []) self.old) self.new }
+    {
+        match self.pop() {
+            None => false,
+            Some(o) => matching(o, t),
+        }
+    }
+
+    /// Takes operands that match the types, the last first.
+    pub fn take_all(&mut self, types: &[ValType]) -> bool
+        ensures { Answers result (popped (operands types.now) self.old) self.new }
+    {
+        for i in (0..types.len()).rev() {
+            if !self.take(types[i]) {
+                return false;
+            }
+        }
+        true
     }
 }

@@ -7,6 +7,3 @@ returns-in-Tables c = subst (λ s. IsTrue c.table_entry.result ↔ EntryIsValid 
 
 pub returns-in-Memories : goal.returns-in-Memories
 returns-in-Memories c = subst (λ s. IsTrue c.memory_entry.result ↔ EntryIsValid c.args.m.now s c.args.k) (sym c.in-Memories.is) c.memory_entry.ensures
-
-pub returns-in-Exports : goal.returns-in-Exports
-returns-in-Exports c = subst (λ s. IsTrue c.export_entry.result ↔ EntryIsValid c.args.m.now s c.args.k) (sym c.in-Exports.is) c.export_entry.ensures

@@ -1,10 +1,9 @@
-use Rattle.std.proofs.Common.{refl, arith}
-use Rattle.std.specs.Prelude.{true}
-use Rattle.wasm_check.proofs.EntryLemmas.{one_more, all_valid}
+use Rattle.std.proofs.Common.{sym, subst}
+use Rattle.std.specs.Prelude.{MatchOption}
+use Rattle.wasm_check.specs.Faults.{IsFirstOf}
+use Rattle.wasm_check.specs.Modules.{SectionIsValid}
 use Rattle.wasm_check.proofs.fields.first_invalid.Goals as goal
 
-pub loop-k-preserved : goal.loop-k-preserved
-loop-k-preserved c = one_more c.args.m.now c.args.s c.loop-k.k true refl c.if-not-entry_is_valid.ensures c.loop-k.invariant
-
-pub returns : goal.returns
-returns c = all_valid c.args.m.now c.args.s (λ j lt. c.loop-k.invariant j (omega (arith, lt, c.loop-k-test.false, c.section_size-k-end.ensures)))
+pub returns-in_ok-first_invalid_export-in-Exports : goal.returns-in_ok-first_invalid_export-in-Exports
+returns-in_ok-first_invalid_export-in-Exports c =
+    subst (λ s. MatchOption c.in_ok-first_invalid_export-in-Exports.field-0 (SectionIsValid c.args.m.now s) (IsFirstOf c.args.m.now s)) (sym c.in-Exports.is) c.in_ok-first_invalid_export-in-Exports.ensures

@@ -11,4 +11,4 @@ returns-then-these-wanted c =
 pub loop-k-preserved : goal.loop-k-preserved
 loop-k-preserved c =
     c.loop-k.invariant ∙ each-goes (c.args.own.now ∷ labels_of (reverse c.args.outer.now)) c.args.wanted.now c.args.labels.now c.loop-k.k-index c.in-Some.these.now c.args.s.now c.take_all.new.self c.loop-k-test.true c.in-Some.ensures c.if-these-wanted.false
-    (ap (λ s. popped (operands c.in-Some.these.now) s) (sym c.in_ok-copy.ensures) ∙ c.if-not-take_all.ensures)
+    (ap (λ s. popped (operands c.in-Some.these.now) s) (sym c.peek-rest.ensures) ∙ c.if-not-take_all.ensures)

@@ -1,0 +1,76 @@
+-- The first fault of a module, from the first fault of a section.
+use Rattle.std.proofs.Common.{◌≡◌, ℕ, zero, suc, ◌+◌, ◌^◌, ◌<◌, List, [], ◌∷◌, length, get_or, refl, sym, ap, subst, arith}
+use Rattle.std.specs.Prelude.{All, Option, Some, None, MatchOption, slice_get}
+use Rattle.std.proofs.lemmas.Option.{MatchOption-at_some, get_or_from_slice_get, slice_get_within}
+use Rattle.wasm_ast.specs.Shape.{HasShape, FuncHasShape}
+use Rattle.wasm_ast.specs.declared.modules.Func.{Func}
+use Rattle.wasm_ast.specs.declared.modules.Module.{Module}
+use Rattle.wasm_check.specs.declared.sections.Section.{Section}
+use Rattle.wasm_check.specs.declared.sections.Section.TheVariants.{Imports, Functions, Tables, Memories, Globals, Exports, Start, Elements, Code, Data}
+use Rattle.wasm_check.specs.declared.why.Why.{Why}
+use Rattle.wasm_check.specs.declared.why.Why.TheVariants.{Code as InCode}
+use Rattle.wasm_check.specs.Contexts.{imported_funcs}
+use Rattle.wasm_check.specs.Faults.{section_id, ValidBelow, BodyFailsAt, FirstFault}
+use Rattle.wasm_check.specs.Modules.{EntryIsValid, SectionIsValid, IsValid}
+use Rattle.wasm_check.specs.Spaces.{section_size, IsFieldFault, FailsIn}
+use Rattle.wasm_check.proofs.ModuleLemmas.{same-section, valid_below-more, all_below, fails-invalid}
+
+all-at : {A : Type 0} (P : A → Type 0) (xs : List A) (k : ℕ) (x : A) → All P xs → slice_get xs k ≡ Some x → P x
+all-at P xs k x all e = subst P (get_or_from_slice_get xs k x x e) (all k x (slice_get_within xs k x e))
+
+pub func-has-shape : (m : Module) (k : ℕ) (f : Func) → HasShape m → slice_get m.funcs k ≡ Some f → FuncHasShape f
+func-has-shape m k f shape e = all-at FuncHasShape m.funcs k f shape.funcs e
+
+pub section-short : (m : Module) (s : Section) → HasShape m → section_size m s < 2 ^ 32
+section-short m Imports h = h.lists.imports
+section-short m Functions h = h.lists.funcs
+section-short m Tables h = h.lists.tables
+section-short m Memories h = h.lists.memories
+section-short m Globals h = h.lists.globals
+section-short m Exports h = h.lists.exports
+section-short m Start h = omega arith
+section-short m Elements h = h.lists.elems
+section-short m Code h = h.lists.funcs
+section-short m Data h = h.lists.segments
+
+-- of an entry
+pub field-first : (m : Module) (s : Section) (why : Why) → (s ≡ Code → ⊥) → IsFieldFault m s why → ValidBelow m (section_id s) → FirstFault m why
+field-first m s why ne fault below =
+    subst (FirstFault m) (sym fault.1) (s, refl, (λ e. ne (same-section s Code e)), record { first = fault.2; sections_before = below })
+
+-- of a body
+pub code-first : (m : Module) (k place function : ℕ) → FailsIn m k place → ValidBelow m 10 → function ≡ length (imported_funcs m) + k → FirstFault m (InCode function place)
+code-first m k place function fails below e = (k, fails.0, e, fails.1, record { first = fails.2; sections_before = below }, fails.3)
+
+-- the first body that isn't valid
+pub fails-in : (m : Module) (k place : ℕ) (f : Func) → slice_get m.funcs k ≡ Some f → BodyFailsAt m f place → ((j : ℕ) → j < k → EntryIsValid m Code j) → FailsIn m k place
+fails-in m k place f e fails before = (f, e, record { invalid = λ valid. fails-invalid m f place fails (valid f e); before = before }, fails)
+
+-- the sections before the code section, in order
+abbrev front : List Section
+front = Imports ∷ Functions ∷ Tables ∷ Memories ∷ Globals ∷ Exports ∷ Start ∷ Elements ∷ []
+
+front-id : (i : ℕ) → i < 8 → section_id (get_or front i Imports) ≡ i + 2
+front-id zero lt = refl
+front-id (suc zero) lt = refl
+front-id (suc (suc zero)) lt = refl
+front-id (suc (suc (suc zero))) lt = refl
+front-id (suc (suc (suc (suc zero)))) lt = refl
+front-id (suc (suc (suc (suc (suc zero))))) lt = refl
+front-id (suc (suc (suc (suc (suc (suc zero)))))) lt = refl
+front-id (suc (suc (suc (suc (suc (suc (suc zero))))))) lt = refl
+front-id (suc (suc (suc (suc (suc (suc (suc (suc n)))))))) lt = absurd (omega (arith, lt))
+
+-- the first fault of one of them, where those before it are valid
+pub front-first : (m : Module) (i : ℕ) (why : Why) (r : Option Why) → i < 8 → ValidBelow m (i + 2) → r ≡ Some why → MatchOption r (SectionIsValid m (get_or front i Imports)) (IsFieldFault m (get_or front i Imports)) → FirstFault m why
+front-first m i why r lt below is h =
+    let s : Section = get_or front i Imports in
+    let id : section_id s ≡ i + 2 = front-id i lt in
+    let fault : IsFieldFault m s why = MatchOption-at_some (SectionIsValid m s) (IsFieldFault m s) why is h in
+    let other : s ≡ Code → ⊥ = λ e. (let ten : section_id s ≡ 10 = ap section_id e in omega (arith, ten, id, lt)) in
+    field-first m s why other fault (subst (ValidBelow m) (sym id) below)
+
+-- the sections before the last are valid
+pub whole-first : (m : Module) (r : Option Why) → ValidBelow m 10 → SectionIsValid m Code → MatchOption r (SectionIsValid m Data) (IsFieldFault m Data) → MatchOption r (IsValid m) (FirstFault m)
+whole-first m None below code h = all_below m (valid_below-more m Data (valid_below-more m Code below code) h)
+whole-first m (Some why) below code h = field-first m Data why (λ e. cc) h (valid_below-more m Code below code)

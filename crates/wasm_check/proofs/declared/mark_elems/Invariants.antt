@@ -1,0 +1,8 @@
+use Rattle.std.proofs.Common.{take}
+use Rattle.std.specs.List.{list_any}
+use Rattle.wasm_check.specs.Contexts.{refers_to}
+use Rattle.wasm_check.specs.Spaces.{Marks}
+use Rattle.wasm_check.proofs.declared.mark_elems.Given as goal
+
+abbrev pub invariant-loop-e : goal.invariant-loop-e
+invariant-loop-e l = Marks l.initial.flags l.flags (λ x. list_any (λ e. list_any (refers_to x) e.items) (take l.e-index l.elems))
