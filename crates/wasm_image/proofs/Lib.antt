@@ -1,0 +1,5 @@
+mod EntryLemmas
+mod HostLemmas
+pub mod ImageLaws
+mod SizeLemmas
+mod TypeLemmas

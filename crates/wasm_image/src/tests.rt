@@ -1,0 +1,100 @@
+// Images of small modules. What `explore` answers to such modules is tested over the commands.
+use crate::crossing::image_crosses;
+use crate::{EntryBad, Image, Large, entry_of, too_large, unlinked};
+use std::alloc::{AllocError, Global};
+use std::test::Fail;
+use wasm_ast::{FuncType, Import, ImportKind, Limits, List, Module, Text, ValType, has_shape};
+use wasm_check::check;
+
+fn none<T>(alloc: Global) -> List<T> {
+    List::new(Vec::new(alloc))
+}
+
+fn one<T: Drop>(alloc: Global, item: T) -> Result<List<T>, AllocError> {
+    let mut list = none(alloc);
+    list.push(item)?;
+    Ok(list)
+}
+
+fn text(alloc: Global, of: &str) -> Result<Text, AllocError> {
+    Ok(Text::new(String::from_str(alloc, of)?))
+}
+
+// (import "env" "puts" (func (param i32)))
+fn imports(alloc: Global) -> Result<List<Import>, AllocError> {
+    let module = text(alloc, "env")?;
+    let name = text(alloc, "puts")?;
+    one(
+        alloc,
+        Import {
+            module,
+            name,
+            kind: ImportKind::Func(0),
+        },
+    )
+}
+
+// The type [i32] -> [].
+fn types(alloc: Global) -> Result<List<FuncType>, AllocError> {
+    let params = one(alloc, ValType::I32)?;
+    one(
+        alloc,
+        FuncType {
+            params,
+            results: none(alloc),
+        },
+    )
+}
+
+// That import, and a memory of 1,025 pages.
+fn module(alloc: Global) -> Result<Module, AllocError> {
+    let types = types(alloc)?;
+    let imports = imports(alloc)?;
+    let memories = one(
+        alloc,
+        Limits {
+            min: 1_025,
+            max: None,
+        },
+    )?;
+    Ok(Module {
+        types,
+        imports,
+        funcs: none(alloc),
+        tables: none(alloc),
+        memories,
+        globals: none(alloc),
+        exports: none(alloc),
+        start: None,
+        elems: none(alloc),
+        segments: none(alloc),
+        customs: none(alloc),
+    })
+}
+
+// The image, if the module is valid.
+fn image_of(alloc: Global, m: Module) -> Result<Option<Image>, AllocError> {
+    if !has_shape(alloc, &m)? {
+        return Ok(None);
+    }
+    match check(alloc, m) {
+        Err(_) => Ok(None),
+        Ok(c) => {
+            let image = Image::new(alloc, c)?;
+            Ok(Some(image))
+        }
+    }
+}
+
+#[test]
+fn what_cant_be_run_is_told(rt: HostRuntime) -> Result<(), Fail> {
+    let m = module(rt.alloc())?;
+    let image = image_of(rt.alloc(), m)?.expect(&rt, "it is valid");
+    image_crosses(&image);
+    assert_eq!(rt; unlinked(&image), Some(0));
+    assert_eq!(rt; image.host(0), None);
+    assert_eq!(rt; image.imported_count(), 1);
+    assert_eq!(rt; too_large(&image), Some(Large::Memory(1_025)));
+    assert_eq!(rt; entry_of(&image, "puts", &[]), Err(EntryBad::NoExport));
+    Ok(())
+}
