@@ -146,10 +146,10 @@ plain_lawful n op =
 
 -- ---- sequences
 
-opcode_lawful : (n : ℕ) → IsLawful n opcode
+pub opcode_lawful : (n : ℕ) → IsLawful n opcode
 opcode_lawful n = after (any_byte_lawful n) (λ b. after (when_lawful n (b == 0xFC) _ _ (u32_lawful n) (gives_lawful n _)) (λ k. gives_lawful n _))
 
-opcode_has_bytes : HasBytes opcode
+pub opcode_has_bytes : HasBytes opcode
 opcode_has_bytes = then_has_bytes any_byte opcode_from (any_byte_has_bytes Fault)
 
 block_lawful : (n : ℕ) (instr : ℕ → Instr) (inner : Sequences) (k : ℕ) → ((b : Bool) (j : ℕ) → IsLawful n (inner b j)) → IsLawful n (block_of instr inner k)
@@ -170,7 +170,7 @@ after_opcode_lawful : (n : ℕ) (inner : Sequences) (others : ℕ → Grammar Se
 after_opcode_lawful n inner others op k p q =
     when_lawful n (is_last op) _ _ (gives_lawful n _) (after (instruction_lawful n inner op k p) (λ one. after (q (k + length one.inside)) (λ rest. gives_lawful n _)))
 
-sequence_lawful : (n : ℕ) (has_data_count in_if : Bool) (k : ℕ) → IsLawful n (sequence_below n has_data_count in_if k)
+pub sequence_lawful : (n : ℕ) (has_data_count in_if : Bool) (k : ℕ) → IsLawful n (sequence_below n has_data_count in_if k)
 sequence_lawful zero has_data_count in_if k = nothing_below _
 sequence_lawful (suc n) has_data_count in_if k =
     let test = allowed (record { has_data_count = has_data_count; else_may_follow = in_if }) in
@@ -202,7 +202,7 @@ after_opcode_in inner outer others more op k p q =
     when_in (is_last op) _ _ _ _ (in_itself _)
     (then_in (instruction inner op k) (instruction outer op k) _ _ (instruction_in inner outer op k p) (λ one. then_in _ _ _ _ (q (k + length one.inside)) (λ rest. in_itself _)))
 
-sequence_in : (n : ℕ) (has_data_count in_if : Bool) (k : ℕ) → IsIn (sequence_below n has_data_count in_if k) (sequence_below (suc n) has_data_count in_if k)
+pub sequence_in : (n : ℕ) (has_data_count in_if : Bool) (k : ℕ) → IsIn (sequence_below n has_data_count in_if k) (sequence_below (suc n) has_data_count in_if k)
 sequence_in zero has_data_count in_if k = no_form_in _
 sequence_in (suc n) has_data_count in_if k =
     let test = allowed (record { has_data_count = has_data_count; else_may_follow = in_if }) in

@@ -1,0 +1,12 @@
+pub mod CustomLaws
+pub mod Examples
+pub mod FormSpelled
+pub mod LocalsSpelled
+pub mod ModulesSpelled
+pub mod PartsSpelled
+pub mod PlainSpelled
+pub mod PutLaws
+pub mod SectionsSpelled
+pub mod SequencesSpelled
+pub mod TextLaws
+pub mod WalkLaws
