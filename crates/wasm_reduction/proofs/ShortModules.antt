@@ -1,0 +1,135 @@
+-- The law of the count of answers, for a module of the shape that modules have.
+use Rattle.std.proofs.Common.{◌≡◌, ℕ, zero, suc, ◌*◌, ◌^◌, ◌≤◌, List, [], ◌∷◌, ◌++◌, length, map, refl, sym, ap, ◌∙◌, subst, arith}
+use Rattle.std.specs.Prelude.{All, Option, Some, None, option_map, slice_get, filter_map, Result, Ok, Err}
+use Rattle.std.specs.List.{cons_option}
+use Rattle.wasm_ast.specs.Shape.{InstrHasShape, SeqHasShape, FuncHasShape, HasShape}
+use Rattle.wasm_ast.specs.declared.instructions.Instr.{Instr}
+use Rattle.wasm_ast.specs.declared.instructions.Instr.TheVariants.{BrTable, Call}
+use Rattle.wasm_ast.specs.declared.modules.ImportKind.{ImportKind}
+use Rattle.wasm_ast.specs.declared.modules.ImportKind.TheVariants.{Func as FuncImport}
+use Rattle.wasm_ast.specs.declared.modules.Import.{Import}
+use Rattle.wasm_ast.specs.declared.modules.Func.{Func}
+use Rattle.wasm_ast.specs.declared.modules.Module.{Module}
+use Rattle.wasm_ast.specs.declared.runs.Value.{Value as Argument}
+use Rattle.wasm_ast.specs.declared.runs.Outcome.{Outcome}
+use Rattle.wasm_rules.specs.Words.{numbers, taken}
+use Rattle.wasm_reduction.specs.Configurations.{Value, Store, End}
+use Rattle.wasm_reduction.specs.Functions.{host_of, Code, Imported, Function, functions, imported_as}
+use Rattle.wasm_reduction.specs.Instantiation.{start_call, invoked, instantiated}
+use Rattle.wasm_reduction.specs.Runs.{Trace, Going, Turned, On, Over, then_follow, follows, started_by, started, by_value, outcome_of, draws_from, run_of, Run, IsRun}
+use Rattle.wasm_reduction.proofs.Moves.{most_questions}
+use Rattle.wasm_reduction.proofs.Counting.{most, AreShort, AllShort, ModuleShort, Few, runs-few}
+
+abbrev Each : {X : Type 0} → (X → Type 0) → List X → Type 0
+Each P [] = Unit {0}
+Each P (x ∷ xs) = P x × Each P xs
+
+each-of : {X : Type 0} (P : X → Type 0) (xs : List X) → All P xs → Each P xs
+each-of P [] h = tt
+each-of P (x ∷ xs) h = (h 0 x (omega arith), each-of P xs (λ k d l. h (suc k) d (omega arith)))
+
+each-append : {X : Type 0} (P : X → Type 0) (xs ys : List X) → Each P xs → Each P ys → Each P (xs ++ ys)
+each-append P [] ys h k = k
+each-append P (x ∷ xs) ys h k = (h.0, each-append P xs ys h.1 k)
+
+each-get : {X : Type 0} (P : X → Type 0) (xs : List X) (n : ℕ) (x : X) → Each P xs → slice_get xs n ≡ Some x → P x
+each-get P [] n x h e = absurd cc
+each-get P (y ∷ ys) zero x h e = let same : y ≡ x = cc in subst P same h.0
+each-get P (y ∷ ys) (suc n) x h e = each-get P ys n x h.1 e
+
+instr-short : (i : Instr) → InstrHasShape i → most_questions i ≤ most
+instr-short (BrTable labels last) h = omega (arith, h)
+instr-short _ h = omega arith
+
+are-short : (is : List Instr) → Each InstrHasShape is → AreShort is
+are-short [] h = tt
+are-short (i ∷ is) h = (instr-short i h.0, are-short is h.1)
+
+all-short : (seqs : List (List Instr)) → Each SeqHasShape seqs → AllShort seqs
+all-short [] h = tt
+all-short (is ∷ rest) h = (are-short is (each-of InstrHasShape is h.0.each), all-short rest h.1)
+
+abbrev BodyShort : Function → Type 0
+BodyShort f = (code : Func) → f.body ≡ Code code → AllShort code.body.seqs
+
+cons-short : (o : Option Function) (fs : List Function) → ((f : Function) → o ≡ Some f → BodyShort f) → Each BodyShort fs → Each BodyShort (cons_option o fs)
+cons-short None fs h k = k
+cons-short (Some f) fs h k = (h f refl, k)
+
+imported-short : (i : Import) (kind : ImportKind) (f : Function) → imported_as i kind ≡ Some f → BodyShort f
+imported-short i (FuncImport ty) f e code is = absurd (let same : Imported (host_of i) ≡ f.body = let g : record { ty = ty; body = Imported (host_of i) } ≡ f = cc in ap (λ f. f.body) g in let both : Imported (host_of i) ≡ Code code = same ∙ is in cc)
+imported-short i _ f e code is = absurd cc
+
+imports-short : (is : List Import) → Each BodyShort (filter_map (λ i. imported_as i i.kind) is)
+imports-short [] = tt
+imports-short (i ∷ is) = cons-short (imported_as i i.kind) _ (imported-short i i.kind) (imports-short is)
+
+own-short : (fs : List Func) → Each FuncHasShape fs → Each BodyShort (map (λ f. record { ty = f.ty; body = Code f }) fs)
+own-short [] h = tt
+own-short (f ∷ fs) h = (λ code is. let same : f ≡ code = cc in subst (λ f. AllShort f.body.seqs) same (all-short f.body.seqs (each-of SeqHasShape f.body.seqs h.0.body.each)), own-short fs h.1)
+
+module-short : (m : Module) → HasShape m → ModuleShort m
+module-short m h x f code found is =
+    each-get BodyShort (functions m) x f
+    (each-append BodyShort (filter_map (λ i. imported_as i i.kind) m.imports) (map (λ f. record { ty = f.ty; body = Code f }) m.funcs)
+    (imports-short m.imports) (own-short m.funcs (each-of FuncHasShape m.funcs h.funcs)))
+    found code is
+
+-- ---- the start of a run
+
+first-few : {W : Type 0} (m : Module) (steps entry : ℕ) (s : Store W) (vals : List (Value W)) (start : Option ℕ) →
+    Few m steps (record {
+      store = s;
+      frame = record { arity = 0; locals = []; seqs = []; here = record { arity = 0; again = []; vals = vals; code = start_call start ++ Call entry ∷ [] }; outer = [] };
+      callers = [];
+      answers = [];
+      units = 0;
+    }) 0
+first-few m steps entry s vals None = record {
+  ready = record { outer = refl; calls = ((entry, refl), tt) };
+  short = record { frame = record { seqs = tt; here = record { again = tt; code = (omega arith, tt) }; outer = tt }; callers = tt };
+  asked = omega arith;
+  room = λ one some. absurd (omega arith);
+  units = omega arith;
+  few = omega arith;
+  fewer = λ some. absurd (omega arith);
+}
+first-few m steps entry s vals (Some x) = record {
+  ready = record { outer = refl; calls = ((x, refl), ((entry, refl), tt)) };
+  short = record { frame = record { seqs = tt; here = record { again = tt; code = (omega arith, (omega arith, tt)) }; outer = tt }; callers = tt };
+  asked = omega arith;
+  room = λ one some. absurd (omega arith);
+  units = omega arith;
+  few = omega arith;
+  fewer = λ some. absurd (omega arith);
+}
+
+abbrev Starts : Module → ℕ → Turned ℕ → Type 0
+Starts m steps (On g) = Few m steps g.config (length g.trace.answers)
+Starts m steps (Over halt trace) = trace.answers ≡ []
+
+starts : (m : Module) (steps entry : ℕ) (args : List Argument) (s : Result (Store ℕ) (End ℕ)) → Starts m steps (started_by (invoked numbers m entry args s))
+starts m steps entry args (Err e) = refl
+starts m steps entry args (Ok s) = first-few m steps entry _ _ m.start
+
+-- ---- the law
+
+pub few-answers-law : (m : Module) (entry : ℕ) (args : List Argument) (input : List ℕ) (steps : ℕ) (run : Run) → HasShape m → 1 ≤ steps →
+    IsRun m entry args input steps run → length run.answers ≤ 2 ^ 32 * steps
+few-answers-law m entry args input steps run shape some a = at (started numbers m entry args) (starts m steps entry args (instantiated m)) a.1
+  where
+    answers-of : (o : Option Outcome) (t : Trace) → option_map (λ outcome. record { outcome = outcome; draws = draws_from input 0 t.symbols; answers = t.answers }) o ≡ Some run → run.answers ≡ t.answers
+    answers-of None t e = absurd cc
+    answers-of (Some outcome) t e =
+        let same : record { outcome = outcome; draws = draws_from input 0 t.symbols; answers = t.answers } ≡ run = cc in
+        sym (ap (λ r. r.answers) same)
+
+    over : (g : Going ℕ) → Few m steps g.config (length g.trace.answers) → (x : Turned ℕ) → follows numbers (taken input) by_value m steps a.0 g ≡ x → run_of input x ≡ Some run → length run.answers ≤ 2 ^ 32 * steps
+    over g few (On y) e f = absurd cc
+    over g few (Over halt t) e f =
+        let counted : length t.answers ≤ 4294967296 * steps = runs-few numbers m (module-short m shape) steps (taken input) by_value a.0 g halt t some few e in
+        omega (arith, counted, ap (λ l. length l) (answers-of (outcome_of halt) t f))
+
+    at : (x : Turned ℕ) → Starts m steps x → run_of input (then_follow x (follows numbers (taken input) by_value m steps a.0)) ≡ Some run → length run.answers ≤ 2 ^ 32 * steps
+    at (Over halt t) h e = omega (arith, ap (λ l. length l) (answers-of (outcome_of halt) t e ∙ h))
+    at (On g) h e = over g h (follows numbers (taken input) by_value m steps a.0 g) refl e

@@ -1,0 +1,17 @@
+pub mod Configurations
+pub mod Functions
+pub mod Combinators
+pub mod Ranges
+pub mod Numeric
+pub mod Parametric
+pub mod Variables
+pub mod Control
+pub mod Tables
+pub mod Memories
+pub mod Steps
+pub mod Images
+pub mod Instantiation
+pub mod Runs
+pub mod Maps
+pub mod Laws
+pub mod Examples
