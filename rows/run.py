@@ -16,6 +16,8 @@ SECONDS = 60
 
 def source_of(row):
     source = row["source"]
+    if "parts" in source:
+        return b"".join(bytes.fromhex(part["hex"]) * part.get("times", 1) for part in source["parts"])
     return bytes.fromhex(source["hex"]) if "hex" in source else source["text"].encode()
 
 
@@ -28,8 +30,9 @@ def differences(program, row):
     wrong = []
     if done.returncode != row["status"]:
         wrong.append("status: wanted %d, got %d" % (row["status"], done.returncode))
-    if done.stdout != row["stdout"].encode():
-        wrong.append("output: wanted %r, got %r" % (row["stdout"], done.stdout))
+    wanted = bytes.fromhex(row["stdout_hex"]) if "stdout_hex" in row else row["stdout"].encode()
+    if done.stdout != wanted:
+        wrong.append("output: wanted %r, got %r" % (wanted, done.stdout))
     if done.stderr:
         wrong.append("standard error: %r" % done.stderr)
     return wrong

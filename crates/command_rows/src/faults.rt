@@ -62,3 +62,15 @@ fn a_refusal_is_cut(rt: HostRuntime) -> Result<(), Fail> {
     assert_eq!(rt; out.written(), b"rea".as_slice());
     Ok(())
 }
+
+// The answer `valid`, cut by the sink.
+#[test]
+fn an_answer_is_cut(rt: HostRuntime) -> Result<(), Fail> {
+    let bytes = Vec::from_slice(rt.alloc(), SUM)?;
+    let mut source = MemSource::new(bytes, 4096, Vec::new(rt.alloc()));
+    let mut out = MemSink::new(rt.alloc(), 100, 3, vec![in rt.alloc(); 2]?)?;
+    let status = owi_plain(rt.alloc(), &["validate"], &mut source, &mut out);
+    assert_eq!(rt; status, Status::WriteFault);
+    assert_eq!(rt; out.written(), b"val".as_slice());
+    Ok(())
+}

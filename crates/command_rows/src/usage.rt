@@ -5,14 +5,18 @@ use std::test::Fail;
 
 #[test]
 fn refuses_other_words(rt: HostRuntime) -> Result<(), Fail> {
-    let table: [&[&str]; 24] = [
+    let table: [&[&str]; 27] = [
         &[],
         &[""],
         &["explore"],
-        &["explore", "f"],
+        &["convert"],
+        &["convert", "binary", "x"],
+        &["convert", "text"],
+        &["binary"],
         &["explore", "f", "--forks", "65"],
         &["explore", "f", "--forks", "1", "--forks", "1"],
-        &["validate"],
+        &["validate", "x"],
+        &["Validate"],
         &[
             "Explore",
             "f",
@@ -23,9 +27,8 @@ fn refuses_other_words(rt: HostRuntime) -> Result<(), Fail> {
             "--conflicts",
             "100000",
         ],
-        // An option is missing, repeated, out of order, or written in one word.
-        &["explore", "f", "--steps", "1000", "--forks", "8"],
-        &["explore", "f", "--steps", "1000", "--conflicts", "100000"],
+        // An option is repeated, out of order, without its number, or written in one word.
+        &["explore", "f", "--steps"],
         &[
             "explore",
             "f",
@@ -199,6 +202,29 @@ fn takes_the_ends_of_the_ranges(rt: HostRuntime) -> Result<(), Fail> {
     let report =
         b"owi report 1\nexport f args - steps 10000000 forks 64 conflicts 1000000\npath - returns i32:5 input -\npaths 1 found 0\n";
     expect(&rt, rt.alloc(), &words, SUM, Status::Done, report)
+}
+
+// An option that is left out has its usual number.
+#[test]
+fn options_may_be_left_out(rt: HostRuntime) -> Result<(), Fail> {
+    let rows: [(&[&str], &[u8]); 3] = [
+        (
+            &["explore", "f"],
+            b"owi report 1\nexport f args - steps 1000000 forks 16 conflicts 100000\npath - returns i32:5 input -\npaths 1 found 0\n",
+        ),
+        (
+            &["explore", "f", "--forks", "8"],
+            b"owi report 1\nexport f args - steps 1000000 forks 8 conflicts 100000\npath - returns i32:5 input -\npaths 1 found 0\n",
+        ),
+        (
+            &["explore", "f", "--steps", "2", "--conflicts", "7"],
+            b"owi report 1\nexport f args - steps 2 forks 16 conflicts 7\npath - bound input -\npaths 1 found 0\n",
+        ),
+    ];
+    for (words, report) in rows {
+        expect(&rt, rt.alloc(), words, SUM, Status::Done, report)?;
+    }
+    Ok(())
 }
 
 #[test]

@@ -1,3 +1,4 @@
 pub mod AnswerLemmas
 pub mod ReportLemmas
 pub mod WordsLemmas
+pub mod SourceLemmas

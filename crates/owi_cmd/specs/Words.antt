@@ -1,9 +1,9 @@
 -- Which words, after the program's name, spell which command.
-use Rattle.std.specs.Prelude.{◌≡◌, ℕ, ◌≤◌, List, [], ◌∷◌, length, codes}
+use Rattle.std.specs.Prelude.{◌≡◌, ℕ, ◌≤◌, ◌⊎◌, List, [], ◌∷◌, ◌++◌, length, codes}
 use Rattle.std.specs.Str.Parse.{IsNumeral, digits_value}
 use Rattle.owi_cmd.specs.declared.report.Bounds.{Bounds}
 use Rattle.owi_cmd.specs.declared.words.Command.{Command}
-use Rattle.owi_cmd.specs.declared.words.Command.TheVariants.{Explore}
+use Rattle.owi_cmd.specs.declared.words.Command.TheVariants.{Explore, ConvertBinary, Validate}
 
 -- 1 to 20 decimal digits that write n, a number from least to most
 pub record IsNumber (least most : ℕ) (text : List ℕ) (n : ℕ) : Type 0 where
@@ -13,19 +13,24 @@ pub record IsNumber (least most : ℕ) (text : List ℕ) (n : ℕ) : Type 0 wher
   pub from : least ≤ n
   pub to : n ≤ most
 
--- the three numbers, each in its range
-pub record AreBounds (steps_text forks_text conflicts_text : List ℕ) (bounds : Bounds) : Type 0 where
-  pub steps : IsNumber 1 10000000 steps_text bounds.steps
-  pub forks : IsNumber 0 64 forks_text bounds.forks
-  pub conflicts : IsNumber 1 1000000 conflicts_text bounds.conflicts
+-- the words begin with this one
+abbrev pub Begins : List ℕ → List (List ℕ) → Type 0
+Begins name words = (rest : List (List ℕ)) × (words ≡ name ∷ rest)
 
--- `--steps N --forks F --conflicts B`
+-- an option of this name that gives a number in its range, or no words, which stand for the usual number
+abbrev pub IsOption : List ℕ → ℕ → ℕ → ℕ → List (List ℕ) → ℕ → Type 0
+IsOption name least most usual words n =
+    ((words ≡ []) × (n ≡ usual)) ⊎ ((text : List ℕ) × (words ≡ name ∷ text ∷ []) × IsNumber least most text n)
+
+-- `--steps N`, `--forks F` and `--conflicts B`, in this order; each may be left out
 pub record AreOptions (words : List (List ℕ)) (bounds : Bounds) : Type 0 where
-  pub steps : List ℕ
-  pub forks : List ℕ
-  pub conflicts : List ℕ
-  pub spelled : words ≡ codes "--steps" ∷ steps ∷ codes "--forks" ∷ forks ∷ codes "--conflicts" ∷ conflicts ∷ []
-  pub bounded : AreBounds steps forks conflicts bounds
+  pub steps : List (List ℕ)
+  pub forks : List (List ℕ)
+  pub conflicts : List (List ℕ)
+  pub spelled : words ≡ steps ++ forks ++ conflicts
+  pub are_steps : IsOption (codes "--steps") 1 10000000 1000000 steps bounds.steps
+  pub are_forks : IsOption (codes "--forks") 0 64 16 forks bounds.forks
+  pub are_conflicts : IsOption (codes "--conflicts") 1 1000000 100000 conflicts bounds.conflicts
 
 -- `explore NAME` and the options
 pub record SpellsExplore (words : List (List ℕ)) (name : List ℕ) (bounds : Bounds) : Type 0 where
@@ -34,4 +39,6 @@ pub record SpellsExplore (words : List (List ℕ)) (name : List ℕ) (bounds : B
   pub bounded : AreOptions options bounds
 
 abbrev pub Spells : List (List ℕ) → Command → Type 0
+Spells words Validate = words ≡ codes "validate" ∷ []
+Spells words ConvertBinary = words ≡ codes "convert" ∷ codes "binary" ∷ []
 Spells words (Explore name bounds) = SpellsExplore words name bounds

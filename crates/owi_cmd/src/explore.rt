@@ -1,25 +1,20 @@
 // Exploring the function of a straight module.
-ghost use Rattle.std.specs.Prelude.{◌≡◌, ◌≤◌, List as Items, ℕ, IfOk, length, codes, ◌++◌, [], ◌∷◌};
+ghost use Rattle.std.specs.Prelude.{◌≡◌, List as Items, ℕ, IfOk, codes, ◌++◌, [], ◌∷◌};
+ghost use Rattle.wasm_image.specs.Entries.{IsEntry};
 ghost use Rattle.owi_cmd.specs.Report.{line, name_text, report_of};
-ghost use Rattle.wasm_ast.specs.declared.instructions.Instr.{Instr as OneInstr};
-ghost use Rattle.wasm_ast.specs.Straight.{straight_module};
-ghost use Rattle.owi_cmd.specs.Answer.{most_bytes, only_row as row_of, status_of as found_in, kind_of as path_kind, AnswersSource, HasReadAll};
+ghost use Rattle.owi_cmd.specs.Rows.{only_row as row_of, status_of as found_in, kind_of as path_kind};
+ghost use Rattle.owi_cmd.specs.Sources.{SpellsReady, AnswersShort, IsOfSource};
 ghost use Rattle.owi_cmd.specs.declared.words.Command.TheVariants.{Explore};
 
+use crate::image::read_image;
 use crate::report::{Bounds, Head, Kind, Row, is_found, put_name, report_text};
+use crate::source::not_yet;
 use crate::status::Status;
+use crate::written::Written;
 use std::alloc::{AllocError, Global};
-use wasm_ast::equals::Same;
-use wasm_ast::{Instr, List, Module, Outcome, Text};
-use wasm_read::read_first;
-use wasm_run::run_straight;
-
-/// A status, and the bytes that are to be written with it.
-#[derive(Drop)]
-pub struct Written {
-    pub status: Status,
-    pub bytes: Vec<u8>,
-}
+use wasm_ast::{List, Outcome, Text};
+use wasm_image::{Image, entry_of};
+use wasm_run::{run_straight, straight_parts};
 
 /// What is written of the function that the source exports by this name.
 pub fn explore(
@@ -28,40 +23,58 @@ pub fn explore(
     bounds: Bounds,
     source: &[u8],
 ) -> Result<Written, AllocError>
-    requires { length source.now ≤ most_bytes }
-    ensures answered { IfOk result (λ w. AnswersSource (Explore name bounds) source.now w.status w.bytes.items) }
-    ensures drained { IfOk result (λ w. HasReadAll w.status) }
+    ensures answered { IfOk result (λ w. AnswersShort (Explore name bounds) source.now w.status w.bytes.items) }
+    ensures drained { IfOk result (λ w. IsOfSource w.status) }
 {
-    let Some(module) = read_first(alloc, source)? else {
-        let bytes = Vec::from_slice(alloc, b"not yet\n")?;
-        return Ok(Written {
-            status: Status::NotYet,
-            bytes,
-        });
-    };
-    if !export_name(&module).same(&name) {
-        let bytes = entry_line(alloc, &name)?;
-        return Ok(Written {
-            status: Status::Entry,
-            bytes,
-        });
+    match read_image(alloc, source)? {
+        Ok(image) => explore_image(alloc, name, bounds, source, &image),
+        Err(refusal) => Ok(refusal),
     }
-    let outcome = run_straight(alloc, body(&module).as_slice(), bounds.steps)?;
+}
+
+// What is written of the function that the module of the source exports by this name.
+fn explore_image(
+    alloc: Global,
+    name: Text,
+    bounds: Bounds,
+    source: &[u8],
+    image: &Image,
+) -> Result<Written, AllocError>
+    requires { SpellsReady source.now image.now }
+    ensures answered { IfOk result (λ w. AnswersShort (Explore name bounds) source.now w.status w.bytes.items) }
+    ensures drained { IfOk result (λ w. IsOfSource w.status) }
+{
+    match entry_of(image, name.as_slice(), &[]) {
+        Ok(function) => explore_function(alloc, name, bounds, source, image, function),
+        Err(_) => {
+            let bytes = entry_line(alloc, &name)?;
+            Ok(Written {
+                status: Status::Entry,
+                bytes,
+            })
+        }
+    }
+}
+
+// What is written of this function, which the module of the source exports by this name.
+fn explore_function(
+    alloc: Global,
+    name: Text,
+    bounds: Bounds,
+    source: &[u8],
+    image: &Image,
+    function: u32,
+) -> Result<Written, AllocError>
+    requires ready { SpellsReady source.now image.now }
+    requires entry { IsEntry image.now name [] function }
+    ensures answered { IfOk result (λ w. AnswersShort (Explore name bounds) source.now w.status w.bytes.items) }
+    ensures drained { IfOk result (λ w. IsOfSource w.status) }
+{
+    let Some((_exported, body)) = straight_parts(image.module()) else {
+        return Ok(not_yet(alloc)?);
+    };
+    let outcome = run_straight(alloc, body.as_slice(), bounds.steps)?;
     Ok(report_of_run(alloc, name, bounds, outcome)?)
-}
-
-fn export_name(straight: &Module) -> &Text
-    requires { (name : Items ℕ) × (body : Items OneInstr) × (straight.now ≡ straight_module name body) }
-    ensures { (name : Items ℕ) (body : Items OneInstr) → straight.now ≡ straight_module name body → result.now ≡ name }
-{
-    &straight.exports.get(0).name
-}
-
-fn body(straight: &Module) -> &List<Instr>
-    requires { (name : Items ℕ) × (body : Items OneInstr) × (straight.now ≡ straight_module name body) }
-    ensures { (name : Items ℕ) (body : Items OneInstr) → straight.now ≡ straight_module name body → result.now ≡ body }
-{
-    straight.funcs.get(0).body.seqs.get(0)
 }
 
 fn entry_line(alloc: Global, name: &Text) -> Result<Vec<u8>, AllocError>

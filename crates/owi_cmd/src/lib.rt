@@ -5,11 +5,16 @@
 // `specs/Answer.antt` what is answered, `specs/Report.antt` the bytes of a report.
 #![tactic(auto)]
 
+mod convert;
 mod explore;
+mod image;
 mod plain;
 mod report;
+mod source;
 mod status;
+mod validate;
 mod words;
+mod written;
 
 pub use plain::owi_plain;
 pub use status::Status;

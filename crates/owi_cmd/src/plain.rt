@@ -3,13 +3,17 @@ ghost use Rattle.std.specs.Prelude.{◌≡◌, ◌≢◌, [], List, ℕ, OnSome,
 ghost use Rattle.std.specs.Io.KnownBytes.{Appends};
 ghost use Rattle.owi_base.specs.Outside.{Rose};
 ghost use Rattle.owi_cmd.specs.Words.{Spells};
-ghost use Rattle.owi_cmd.specs.Answer.{Answers, AnswersSource, HasReadAll, fixed_line, most_bytes};
+ghost use Rattle.owi_cmd.specs.Answer.{Answers, HasReadAll, fixed_line};
+ghost use Rattle.owi_cmd.specs.Sources.{AnswersShort, AnswersSource, IsOfSource, most_bytes};
 ghost use Rattle.owi_cmd.specs.declared.words.Command.{Command as OneCommand};
 ghost use Rattle.owi_cmd.specs.declared.status.Status.{Status as OneStatus};
 
-use crate::explore::{Written, explore};
+use crate::convert::convert_binary;
+use crate::explore::explore;
 use crate::status::Status;
+use crate::validate::validate;
 use crate::words::{Command, read_words};
+use crate::written::Written;
 use owi_base::{ReadAll, Sink, Source, read_all, write_all};
 use std::alloc::{AllocError, Global};
 
@@ -17,7 +21,9 @@ const MOST_BYTES: u64 = 16_777_216;
 
 /// Carries out the command that the words spell, on the bytes of the source, and writes its answer to the sink.
 ///
-/// The refusals come in this order: `Usage`, `ReadFault`, `Limit`, `NotYet`, `Entry`. All output is made before the
+/// The refusals come in this order: `Usage`, `ReadFault`, `Limit` of the length, `NotYet` of a text, `Malformed`, `Outside` or
+/// `Limit` by the first trouble of the bytes, `Invalid`, `Unlinked`, `Limit` of a size,
+/// `Entry`, `NotYet` of a module that isn't straight, `Limit` of the output. All output is made before the
 /// first write, so `NoMemory` never follows a write.
 pub fn owi_plain<S: Source, K: Sink>(
     alloc: Global,
@@ -76,12 +82,13 @@ fn answer<S: Source>(alloc: Global, words: &[&str], source: &mut S) -> Result<Wr
 
 // What the command answers to the bytes of a whole source.
 fn carried_out(alloc: Global, command: Command, source: &[u8]) -> Result<Written, AllocError>
-    requires { length source.now ≤ most_bytes }
-    ensures answered { IfOk result (λ w. AnswersSource command source.now w.status w.bytes.items) }
-    ensures drained { IfOk result (λ w. HasReadAll w.status) }
+    ensures answered { IfOk result (λ w. AnswersShort command source.now w.status w.bytes.items) }
+    ensures drained { IfOk result (λ w. IsOfSource w.status) }
 {
     match command {
         Command::Explore { name, bounds } => Ok(explore(alloc, name, bounds, source)?),
+        Command::ConvertBinary => Ok(convert_binary(alloc, source)?),
+        Command::Validate => Ok(validate(alloc, source)?),
     }
 }
 
@@ -93,7 +100,6 @@ fn line_of(status: Status) -> &'static [u8]
         Status::Usage => b"usage\n",
         Status::Limit => b"limit length\n",
         Status::ReadFault => b"read fault\n",
-        Status::NotYet => b"not yet\n",
         Status::NoMemory => b"no memory\n",
         _ => b"",
     }

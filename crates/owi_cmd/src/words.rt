@@ -1,6 +1,6 @@
 // The words of a command.
-ghost use Rattle.std.specs.Prelude.{◌≡◌, ◌≢◌, ◌∷◌, ℕ, List, IfOk, IfSome, IfNone, MatchOption, map};
-ghost use Rattle.owi_cmd.specs.Words.{IsNumber, AreBounds, AreOptions, Spells};
+ghost use Rattle.std.specs.Prelude.{◌≡◌, ◌≢◌, ◌↔◌, ◌∷◌, ◌++◌, [], ℕ, List, IsTrue, IfOk, IfSome, IfNone, MatchOption, codes, map};
+ghost use Rattle.owi_cmd.specs.Words.{IsNumber, IsOption, AreOptions, Begins, Spells};
 ghost use Rattle.owi_cmd.specs.declared.report.Bounds.{Bounds as OneBounds};
 ghost use Rattle.owi_cmd.specs.declared.words.Command.{Command as OneCommand};
 
@@ -10,9 +10,15 @@ use wasm_ast::Text;
 
 const MOST_STEPS: u64 = 10_000_000;
 
+const USUAL_STEPS: u64 = 1_000_000;
+
 const MOST_FORKS: u64 = 64;
 
+const USUAL_FORKS: u64 = 16;
+
 const MOST_CONFLICTS: u64 = 1_000_000;
+
+const USUAL_CONFLICTS: u64 = 100_000;
 
 const MOST_DIGITS: usize = 20;
 
@@ -21,6 +27,10 @@ const MOST_DIGITS: usize = 20;
 pub enum Command {
     /// Explore the function that is exported by this name.
     Explore { name: Text, bounds: Bounds },
+    /// Write the module in the binary form, spelled shortest.
+    ConvertBinary,
+    /// Say whether the module is valid.
+    Validate,
 }
 
 /// The command that the words after the program's name spell, or None where they spell none.
@@ -28,6 +38,12 @@ pub fn read_words(alloc: Global, words: &[&str]) -> Result<Option<Command>, Allo
     ensures spelled { IfOk result (λ answer. IfSome answer (λ command. Spells (map (λ w. w.now) words.now) command)) }
     ensures none { IfOk result (λ answer. IfNone answer ((command : OneCommand) → ¬ Spells (map (λ w. w.now) words.now) command)) }
 {
+    if is_validate(words) {
+        return Ok(Some(Command::Validate));
+    }
+    if is_convert(words) {
+        return Ok(Some(Command::ConvertBinary));
+    }
     let Some((name, options)) = valued(words, "explore") else {
         return Ok(None);
     };
@@ -38,23 +54,81 @@ pub fn read_words(alloc: Global, words: &[&str]) -> Result<Option<Command>, Allo
     Ok(Some(Command::Explore { name, bounds }))
 }
 
+// Whether the only word is `validate`.
+fn is_validate(words: &[&str]) -> bool
+    ensures { IsTrue result ↔ (map (λ w. w.now) words.now ≡ codes "validate" ∷ []) }
+{
+    begins(words, "validate") && words.len() == 1
+}
+
+// Whether the words are `convert binary`.
+fn is_convert(words: &[&str]) -> bool
+    ensures { IsTrue result ↔ (map (λ w. w.now) words.now ≡ codes "convert" ∷ codes "binary" ∷ []) }
+{
+    let Some((second, rest)) = valued(words, "convert") else {
+        return false;
+    };
+    second == "binary" && rest.is_empty()
+}
+
 // The bounds that the options give.
 fn read_options(words: &[&str]) -> Option<Bounds>
     ensures { MatchOption result ((b : OneBounds) → ¬ AreOptions (map (λ w. w.now) words.now) b) (λ b. AreOptions (map (λ w. w.now) words.now) b) }
 {
-    let Some((steps, rest)) = valued(words, "--steps") else {
+    let Some((steps, rest)) = option(words, "--steps", 1, MOST_STEPS, USUAL_STEPS) else {
         return None;
     };
-    let Some((forks, rest)) = valued(rest, "--forks") else {
+    let Some((forks, rest)) = option(rest, "--forks", 0, MOST_FORKS, USUAL_FORKS) else {
         return None;
     };
-    let Some((conflicts, rest)) = valued(rest, "--conflicts") else {
+    let Some((conflicts, rest)) = option(rest, "--conflicts", 1, MOST_CONFLICTS, USUAL_CONFLICTS)
+    else {
         return None;
     };
     if !rest.is_empty() {
         return None;
     }
-    read_bounds(steps, forks, conflicts)
+    Some(Bounds {
+        steps,
+        forks,
+        conflicts,
+    })
+}
+
+// The number of an option with which the words begin, or the usual one where they don't, and the words after it.
+fn option<'w, 's>(
+    words: &'w [&'s str],
+    name: &str,
+    least: u64,
+    most: u64,
+    usual: u64,
+) -> Option<(u64, &'w [&'s str])>
+    ensures given { IfSome result (λ x. (own : List (List ℕ)) × IsOption name.now least most usual own x.0
+        × (map (λ w. w.now) words.now ≡ own ++ map (λ w. w.now) x.1.now)
+        × (own ≡ [] → ¬ Begins name.now (map (λ w. w.now) words.now))) }
+    ensures none { IfNone result (Begins name.now (map (λ w. w.now) words.now)
+        × ((text : List ℕ) (rest : List (List ℕ)) (n : ℕ) → map (λ w. w.now) words.now ≡ name.now ∷ text ∷ rest → ¬ IsNumber least most text n)) }
+{
+    if !begins(words, name) {
+        return Some((usual, words));
+    }
+    let Some((text, rest)) = valued(words, name) else {
+        return None;
+    };
+    let Some(n) = number(text, least, most) else {
+        return None;
+    };
+    Some((n, rest))
+}
+
+// Whether the words begin with this one.
+fn begins(words: &[&str], name: &str) -> bool
+    ensures { IsTrue result ↔ Begins name.now (map (λ w. w.now) words.now) }
+{
+    match words {
+        [first, ..] => *first == name,
+        [] => false,
+    }
 }
 
 // The word after this one, with which the words begin, and the words after both.
@@ -73,19 +147,6 @@ fn valued<'w, 's>(words: &'w [&'s str], name: &str) -> Option<(&'s str, &'w [&'s
         }
         _ => None,
     }
-}
-
-fn read_bounds(steps: &str, forks: &str, conflicts: &str) -> Option<Bounds>
-    ensures { MatchOption result ((b : OneBounds) → ¬ AreBounds steps.now forks.now conflicts.now b) (λ b. AreBounds steps.now forks.now conflicts.now b) }
-{
-    let steps = number(steps, 1, MOST_STEPS)?;
-    let forks = number(forks, 0, MOST_FORKS)?;
-    let conflicts = number(conflicts, 1, MOST_CONFLICTS)?;
-    Some(Bounds {
-        steps,
-        forks,
-        conflicts,
-    })
 }
 
 // The number from least to most that the text writes.

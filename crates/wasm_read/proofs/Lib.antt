@@ -1,2 +1,15 @@
-mod Spelling
-mod StraightShape
+pub mod AccessLaws
+pub mod AssemblyLaws
+pub mod ByteLaws
+pub mod EntryLaws
+pub mod GroupLaws
+pub mod NestLaws
+pub mod ReadingLaws
+pub mod SectionLaws
+pub mod ShapeOfBodies
+pub mod ShapeOfExpressions
+pub mod ShapeOfInstructions
+pub mod ShapeOfLists
+pub mod ShapeOfLocals
+pub mod ShapeOfModules
+pub mod WholeLaws

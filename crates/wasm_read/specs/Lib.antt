@@ -1,0 +1,6 @@
+pub mod Accesses
+pub mod Groups
+pub mod Nests
+pub mod Refusals
+pub mod Views
+pub mod Wholes

@@ -1,14 +1,35 @@
 // Reading the binary form of WebAssembly.
 //
-// `read_first` reads the straight modules: one function without params and with one i32 result, whose body only adds
-// constants, exported by a name, with each number in one byte. It answers the module exactly where the bytes spell one, and
-// each list of bytes spells at most one. `specs/Straight.antt` of `wasm_ast` says which bytes those are.
+// `read_module` reads the modules of the profile: it answers the module that the bytes as a whole spell, or their first
+// trouble with its place. The grammar and the troubles stand in `wasm_binary`.
 #![tactic(auto)]
 
-mod body;
-mod first;
-mod parts;
-#[cfg(test)]
-mod tests;
+mod assembly;
+mod bad;
+mod codes;
+mod contents;
+mod counts;
+mod customs;
+mod entries;
+mod entries_by;
+mod expressions;
+mod framing;
+mod groups;
+mod imports;
+mod instructions;
+mod module;
+mod names;
+mod nests;
+mod numbers;
+mod opcodes;
+mod reading;
+mod sections;
+mod segments;
+mod table_instructions;
+mod type_entries;
+mod types;
+mod views;
+mod waiting;
 
-pub use first::read_first;
+pub use bad::ReadBad;
+pub use module::read_module;

@@ -4,8 +4,10 @@
 // standard's reduction under that bound, which `specs/Reduction.antt` defines; no step of such a body lacks an operand.
 #![tactic(auto)]
 
+mod forms;
 mod straight;
 #[cfg(test)]
 mod tests;
 
+pub use forms::straight_parts;
 pub use straight::run_straight;

@@ -1,0 +1,211 @@
+-- The instructions that hold no others have their shape and name no sequences.
+use Rattle.std.proofs.Common.{◌≡◌, ◌≢◌, ℕ, zero, suc, ◌+◌, ◌-◌, ◌^◌, ◌<◌, ◌≤◌, ◌⊎◌, inl, inr, Bool, true, false, List, [], ◌∷◌, Result, Ok, Err, refl, sym, ap, subst, ◌∙◌, arith}
+use Rattle.std.specs.Prelude.{nat_le, nat_lt, ◌==◌, ◌&&◌, ◌||◌, IsTrue}
+use Rattle.std.proofs.lemmas.Bool.{eqb-true, eqb-false}
+use Rattle.std.proofs.lemmas.Bool.Decides.{nat_tests}
+use Rattle.owi_base.specs.Forms.{Form, gives, ◌>>=◌, many, checked, any_byte, when◌form◌else◌}
+use Rattle.owi_base.proofs.UnsignedLaws.{chosen}
+use Rattle.wasm_ast.specs.Numbering.{named_by}
+use Rattle.wasm_ast.specs.Opcodes.{is_from, is_load, is_store, is_numeric}
+use Rattle.wasm_ast.specs.Shape.{IsShort, IsReference, InstrHasShape}
+use Rattle.wasm_ast.specs.declared.instructions.Instr.{Instr}
+use Rattle.wasm_ast.specs.declared.instructions.Instr.TheVariants.{Unreachable, Nop, Block, Loop, If, Br, BrIf, BrTable, Return, Call, CallIndirect, RefNull, RefIsNull, RefFunc, Discard, Select, SelectTyped, LocalGet, LocalSet, LocalTee, GlobalGet, GlobalSet, TableGet, TableSet, TableInit, ElemDrop, TableCopy, TableGrow, TableSize, TableFill, Load, Store, MemorySize, MemoryGrow, MemoryInit, DataDrop, MemoryCopy, MemoryFill, Const32, Const64, Num}
+use Rattle.wasm_binary.specs.Faults.{Fault, byte}
+use Rattle.wasm_binary.specs.Values.{Grammar, Test, u32, s32, s64, tag, vec}
+use Rattle.wasm_binary.specs.Types.{below, ref_type, val_type}
+use Rattle.wasm_binary.specs.Instructions.{Opcode, Around, is_opcode, one_index, two_indices, memory_argument, modulo, index_and_zero, zero_byte, zero_bytes, after_FC, branch_table, select_typed, null_of, constant_32, constant_64, plain}
+use Rattle.wasm_read.proofs.ShapeOfLists.{Says, gives_says, then_says, any_says, checked_says, when_says, vec_says, ref_type_says, Any, AllShort}
+
+-- it names no sequence and has its shape
+abbrev pub IsPlain : Instr → Type 0
+IsPlain instr = (named_by instr ≡ []) × InstrHasShape instr
+
+one_index_says : (instr : ℕ → Instr) → ((x : ℕ) → IsPlain (instr x)) → Says (one_index instr) IsPlain
+one_index_says instr p = then_says Any IsPlain (any_says u32) (λ x any. gives_says IsPlain _ (p x))
+
+two_indices_says : (instr : ℕ → ℕ → Instr) → ((x y : ℕ) → IsPlain (instr x y)) → Says (two_indices instr) IsPlain
+two_indices_says instr p = then_says Any IsPlain (any_says u32) (λ x any. then_says Any IsPlain (any_says u32) (λ y also. gives_says IsPlain _ (p x y)))
+
+index_and_zero_says : (instr : ℕ → Instr) → ((x : ℕ) → IsPlain (instr x)) → Says (index_and_zero instr) IsPlain
+index_and_zero_says instr p = then_says Any IsPlain (any_says u32) (λ x any. then_says Any IsPlain (any_says (tag 0)) (λ y also. gives_says IsPlain _ (p x)))
+
+zero_byte_says : (instr : Instr) → IsPlain instr → Says (zero_byte instr) IsPlain
+zero_byte_says instr p = then_says Any IsPlain (any_says (tag 0)) (λ y also. gives_says IsPlain _ p)
+
+zero_bytes_says : (instr : Instr) → IsPlain instr → Says (zero_bytes instr) IsPlain
+zero_bytes_says instr p = then_says Any IsPlain (any_says (tag 0)) (λ x any. then_says Any IsPlain (any_says (tag 0)) (λ y also. gives_says IsPlain _ p))
+
+exponent_ok : (n y : ℕ) → below 32 n ≡ Ok y → y < 32
+exponent_ok n y e =
+    elim (chosen (nat_lt n 32) (let r : Result ℕ (ℕ → Fault) = Ok n in r) (Err byte) (let r : Result ℕ (ℕ → Fault) = Ok y in r) e) [
+      | inl is ↦ let test = is.0 in let lt : n < 32 = grind (arith, nat_tests) in let both = is.1 in let same : n ≡ y = cc in omega arith
+      | inr other ↦ let both = other.1 in absurd cc
+    ]
+
+memory_argument_says : (instr : ℕ → ℕ → Instr) → ((x y : ℕ) → x < 32 → IsPlain (instr x y)) → Says (memory_argument instr) IsPlain
+memory_argument_says instr p =
+    then_says (λ align. align < 32) IsPlain (checked_says u32 (below 32) Any (λ align. align < 32) (any_says u32) (λ n y any e. exponent_ok n y e)) (λ align small.
+    then_says Any IsPlain (any_says u32) (λ offset any. gives_says IsPlain _ (p align offset small)))
+
+branch_table_says : Says branch_table IsPlain
+branch_table_says =
+    then_says (AllShort Any) IsPlain (vec_says Any u32 (any_says u32)) (λ labels are.
+    then_says Any IsPlain (any_says u32) (λ last any. gives_says IsPlain _ (refl, are.1)))
+
+select_typed_says : Says select_typed IsPlain
+select_typed_says = then_says (AllShort Any) IsPlain (vec_says Any val_type (any_says val_type)) (λ kinds are. gives_says IsPlain _ (refl, are.1))
+
+null_of_says : Says null_of IsPlain
+null_of_says = then_says IsReference IsPlain ref_type_says (λ kind is. gives_says IsPlain _ (refl, is))
+
+constant_32_says : Says constant_32 IsPlain
+constant_32_says = then_says Any IsPlain (any_says s32) (λ z any. gives_says IsPlain _ (refl, tt))
+
+constant_64_says : Says constant_64 IsPlain
+constant_64_says = then_says Any IsPlain (any_says s64) (λ z any. gives_says IsPlain _ (refl, tt))
+
+after_FC_says : (n : ℕ) → Says (after_FC n) IsPlain
+unfolding after_FC
+after_FC_says n =
+    when_says IsPlain (n == 8) _ _ (λ t. index_and_zero_says MemoryInit (λ x. (refl, tt))) (λ n8.
+    when_says IsPlain (n == 9) _ _ (λ t. one_index_says DataDrop (λ x. (refl, tt))) (λ n9.
+    when_says IsPlain (n == 10) _ _ (λ t. zero_bytes_says MemoryCopy (refl, tt)) (λ n10.
+    when_says IsPlain (n == 11) _ _ (λ t. zero_byte_says MemoryFill (refl, tt)) (λ n11.
+    when_says IsPlain (n == 12) _ _ (λ t. two_indices_says TableInit (λ x y. (refl, tt))) (λ n12.
+    when_says IsPlain (n == 13) _ _ (λ t. one_index_says ElemDrop (λ x. (refl, tt))) (λ n13.
+    when_says IsPlain (n == 14) _ _ (λ t. two_indices_says TableCopy (λ x y. (refl, tt))) (λ n14.
+    when_says IsPlain (n == 15) _ _ (λ t. one_index_says TableGrow (λ x. (refl, tt))) (λ n15.
+    when_says IsPlain (n == 16) _ _ (λ t. one_index_says TableSize (λ x. (refl, tt))) (λ n16.
+    one_index_says TableFill (λ x. (refl, tt)))))))))))
+
+-- ---- what is left after all other opcodes is numeric
+
+or_is : (a b : Bool) → (a || b) ≡ true → (a ≡ true) ⊎ (b ≡ true)
+or_is true b e = inl refl
+or_is false b e = inr e
+
+pub or_not : (a b : Bool) → (a || b) ≡ false → (a ≡ false) × (b ≡ false)
+or_not true b e = absurd cc
+or_not false b e = (refl, e)
+
+from_is : (low high b : ℕ) → is_from low high b ≡ true → (low ≤ b) × (b ≤ high)
+from_is low high b e = (grind (arith, nat_tests), grind (arith, nat_tests))
+
+true_is_not_false : (b : Bool) → b ≡ true → b ≡ false → ⊥
+true_is_not_false b e f = cc
+
+-- the byte is none of the others
+pub record IsNone (b : ℕ) : Type 0 where
+  pub low : 0x05 ≤ b
+  pub last : (b == 0x05) ≡ false
+  pub end : (b == 0x0B) ≡ false
+  pub jumps : 0x0C ≤ b → 0x12 ≤ b
+  pub params : 0x1A ≤ b → 0x1D ≤ b
+  pub variables : 0x20 ≤ b → 0x27 ≤ b
+  pub load : is_load b ≡ false
+  pub store : is_store b ≡ false
+  pub memory : 0x3F ≤ b → 0x43 ≤ b
+  pub refs : 0xD0 ≤ b → 0xD3 ≤ b
+
+-- it isn't the number, so it is above it
+up : (b k next : ℕ) → next ≡ k + 1 → (b == k) ≡ false → k ≤ b → next ≤ b
+up b k next is none le = let ne : b ≢ k = eqb-false b k none in omega arith
+
+and_left : (a b : Bool) → (a && b) ≡ true → a ≡ true
+and_left true b e = refl
+and_left false b e = absurd cc
+
+numeric_left : (around : Around) (b : ℕ) → is_opcode around b ≡ true → IsNone b → is_numeric b ≡ true
+numeric_left around b e none =
+    elim (or_is _ (is_from 0xD0 0xD2 b) e) [
+      | inr refs ↦ let r = from_is 0xD0 0xD2 b refs in absurd (omega (arith, none.refs r.0, r.1))
+      | inl e1 ↦ elim (or_is _ (is_numeric b) e1) [
+        | inr is ↦ is
+        | inl e2 ↦ elim (or_is _ (is_from 0x3F 0x42 b) e2) [
+          | inr memory ↦ let r = from_is 0x3F 0x42 b memory in absurd (omega (arith, none.memory r.0, r.1))
+          | inl e3 ↦ elim (or_is _ (is_store b) e3) [
+            | inr store ↦ absurd (true_is_not_false (is_store b) store none.store)
+            | inl e4 ↦ elim (or_is _ (is_load b) e4) [
+              | inr load ↦ absurd (true_is_not_false (is_load b) load none.load)
+              | inl e5 ↦ elim (or_is _ (is_from 0x20 0x26 b) e5) [
+                | inr variables ↦ let r = from_is 0x20 0x26 b variables in absurd (omega (arith, none.variables r.0, r.1))
+                | inl e6 ↦ elim (or_is _ (is_from 0x1A 0x1C b) e6) [
+                  | inr params ↦ let r = from_is 0x1A 0x1C b params in absurd (omega (arith, none.params r.0, r.1))
+                  | inl e7 ↦ elim (or_is _ (is_from 0x0B 0x11 b) e7) [
+                    | inr jumps ↦
+                        let r = from_is 0x0B 0x11 b jumps in
+                        let ne : b ≢ 0x0B = eqb-false b 0x0B none.end in
+                        let le : 0x0C ≤ b = omega arith in absurd (omega (arith, none.jumps le, r.1))
+                    | inl e8 ↦ elim (or_is (is_from 0x00 0x04 b) (b == 0x05 && around.else_may_follow) e8) [
+                      | inl low ↦ let r = from_is 0x00 0x04 b low in absurd (omega (arith, none.low, r.1))
+                      | inr last ↦ absurd (true_is_not_false (b == 0x05) (and_left (b == 0x05) around.else_may_follow last) none.last)
+                    ]
+                  ]
+                ]
+              ]
+            ]
+          ]
+        ]
+      ]
+    ]
+
+-- an opcode that is allowed, of no control instruction, and no end or else
+pub record IsPlainOpcode (around : Around) (op : Opcode) : Type 0 where
+  pub known : (is_opcode around op.first ≡ true) ⊎ (op.first ≡ 0xFC)
+  pub block : (op.first == 0x02) ≡ false
+  pub loop : (op.first == 0x03) ≡ false
+  pub choice : (op.first == 0x04) ≡ false
+  pub last : (op.first == 0x05) ≡ false
+  pub end : (op.first == 0x0B) ≡ false
+
+is_known : (around : Around) (b : ℕ) → (is_opcode around b ≡ true) ⊎ (b ≡ 0xFC) → (b == 0xFC) ≡ false → is_opcode around b ≡ true
+is_known around b (inl is) none = is
+is_known around b (inr is) none = absurd (eqb-false b 0xFC none is)
+
+pub plain_says : (around : Around) (op : Opcode) → IsPlainOpcode around op → Says (plain op) IsPlain
+unfolding plain
+plain_says around op is =
+    let b = op.first in
+    when_says IsPlain (b == 0x00) _ _ (λ t. gives_says IsPlain _ (refl, tt)) (λ n00.
+    when_says IsPlain (b == 0x01) _ _ (λ t. gives_says IsPlain _ (refl, tt)) (λ n01.
+    when_says IsPlain (b == 0x0C) _ _ (λ t. one_index_says Br (λ x. (refl, tt))) (λ n0C.
+    when_says IsPlain (b == 0x0D) _ _ (λ t. one_index_says BrIf (λ x. (refl, tt))) (λ n0D.
+    when_says IsPlain (b == 0x0E) _ _ (λ t. branch_table_says) (λ n0E.
+    when_says IsPlain (b == 0x0F) _ _ (λ t. gives_says IsPlain _ (refl, tt)) (λ n0F.
+    when_says IsPlain (b == 0x10) _ _ (λ t. one_index_says Call (λ x. (refl, tt))) (λ n10.
+    when_says IsPlain (b == 0x11) _ _ (λ t. two_indices_says CallIndirect (λ x y. (refl, tt))) (λ n11.
+    when_says IsPlain (b == 0x1A) _ _ (λ t. gives_says IsPlain _ (refl, tt)) (λ n1A.
+    when_says IsPlain (b == 0x1B) _ _ (λ t. gives_says IsPlain _ (refl, tt)) (λ n1B.
+    when_says IsPlain (b == 0x1C) _ _ (λ t. select_typed_says) (λ n1C.
+    when_says IsPlain (b == 0x20) _ _ (λ t. one_index_says LocalGet (λ x. (refl, tt))) (λ n20.
+    when_says IsPlain (b == 0x21) _ _ (λ t. one_index_says LocalSet (λ x. (refl, tt))) (λ n21.
+    when_says IsPlain (b == 0x22) _ _ (λ t. one_index_says LocalTee (λ x. (refl, tt))) (λ n22.
+    when_says IsPlain (b == 0x23) _ _ (λ t. one_index_says GlobalGet (λ x. (refl, tt))) (λ n23.
+    when_says IsPlain (b == 0x24) _ _ (λ t. one_index_says GlobalSet (λ x. (refl, tt))) (λ n24.
+    when_says IsPlain (b == 0x25) _ _ (λ t. one_index_says TableGet (λ x. (refl, tt))) (λ n25.
+    when_says IsPlain (b == 0x26) _ _ (λ t. one_index_says TableSet (λ x. (refl, tt))) (λ n26.
+    when_says IsPlain (is_load b) _ _ (λ t. memory_argument_says (Load b) (λ x y small. (refl, (t, small)))) (λ load.
+    when_says IsPlain (is_store b) _ _ (λ t. memory_argument_says (Store b) (λ x y small. (refl, (t, small)))) (λ store.
+    when_says IsPlain (b == 0x3F) _ _ (λ t. zero_byte_says MemorySize (refl, tt)) (λ n3F.
+    when_says IsPlain (b == 0x40) _ _ (λ t. zero_byte_says MemoryGrow (refl, tt)) (λ n40.
+    when_says IsPlain (b == 0x41) _ _ (λ t. constant_32_says) (λ n41.
+    when_says IsPlain (b == 0x42) _ _ (λ t. constant_64_says) (λ n42.
+    when_says IsPlain (b == 0xD0) _ _ (λ t. null_of_says) (λ nD0.
+    when_says IsPlain (b == 0xD1) _ _ (λ t. gives_says IsPlain _ (refl, tt)) (λ nD1.
+    when_says IsPlain (b == 0xD2) _ _ (λ t. one_index_says RefFunc (λ x. (refl, tt))) (λ nD2.
+    when_says IsPlain (b == 0xFC) _ _ (λ t. after_FC_says op.second) (λ nFC.
+    gives_says IsPlain _ (
+      refl,
+      numeric_left around b (is_known around b is.known nFC) (record {
+        low = up b 0x04 0x05 refl is.choice (up b 0x03 0x04 refl is.loop (up b 0x02 0x03 refl is.block (up b 0x01 0x02 refl n01 (up b 0x00 0x01 refl n00 (omega arith)))));
+        last = is.last;
+        end = is.end;
+        jumps = λ le. up b 0x11 0x12 refl n11 (up b 0x10 0x11 refl n10 (up b 0x0F 0x10 refl n0F (up b 0x0E 0x0F refl n0E (up b 0x0D 0x0E refl n0D (up b 0x0C 0x0D refl n0C le)))));
+        params = λ le. up b 0x1C 0x1D refl n1C (up b 0x1B 0x1C refl n1B (up b 0x1A 0x1B refl n1A le));
+        variables = λ le. up b 0x26 0x27 refl n26 (up b 0x25 0x26 refl n25 (up b 0x24 0x25 refl n24 (up b 0x23 0x24 refl n23 (up b 0x22 0x23 refl n22 (up b 0x21 0x22 refl n21 (up b 0x20 0x21 refl n20 le))))));
+        load = load;
+        store = store;
+        memory = λ le. up b 0x42 0x43 refl n42 (up b 0x41 0x42 refl n41 (up b 0x40 0x41 refl n40 (up b 0x3F 0x40 refl n3F le)));
+        refs = λ le. up b 0xD2 0xD3 refl nD2 (up b 0xD1 0xD2 refl nD1 (up b 0xD0 0xD1 refl nD0 le));
+      }),
+    )))))))))))))))))))))))))))))

@@ -1,0 +1,10 @@
+use Rattle.std.proofs.Common.{◌≡◌, ◌≤◌, ◌-◌, length}
+use Rattle.owi_base.specs.Forms.{many}
+use Rattle.wasm_read.proofs.EntryLaws.{put_before}
+use Rattle.wasm_read.proofs.entries.read_many.Given as goal
+
+-- the entries so far, before those that are left, are what is read from the start
+abbrev pub invariant-loop : goal.invariant-loop
+invariant-loop g l =
+    (l.at ≤ length l.view.bytes)
+    × ((many g.T.Entry.form l.count).read l.view l.start ≡ put_before l.entries ((many g.T.Entry.form (l.count - l.counter)).read l.view l.at))

@@ -1,0 +1,14 @@
+use Rattle.std.proofs.Common.{refl, arith, FitsSigned, w64}
+use Rattle.std.proofs.lemmas.Int.{ints, to_z-of_z}
+use Rattle.wasm_read.specs.Refusals.{fault_of}
+use Rattle.wasm_read.proofs.ReadingLaws.{signed_read, signed_told}
+use Rattle.wasm_read.proofs.numbers.read_s64.Goals as goal
+
+pub returns-in-Ok-clause-tells : goal.returns-in-Ok-clause-tells
+returns-in-Ok-clause-tells c =
+    let fits : FitsSigned w64 c.in-Ok.value = omega (arith, ints, c.in-Ok.ensures.small) in
+    simp to_z-of_z (signed_read 64 c.args.view.now c.args.at c.in-Ok.value c.in-Ok.next (rw c.bytes.ensures at c.in-Ok.ensures.spelled))
+
+pub returns-in-Err-clause-tells : goal.returns-in-Err-clause-tells
+returns-in-Err-clause-tells c =
+    signed_told 64 c.args.view.now c.args.at (fault_of c.number_trouble.result) c.in-Err.bad (rw c.bytes.ensures at ((c.in-Err.ensures.trouble c.in-Err.bad).0 refl)) c.number_trouble.ensures

@@ -1,0 +1,26 @@
+// Sequences that wait for the one inside them to end.
+use wasm_ast::{BlockType, Instr, List};
+
+/// What opened a sequence inside another.
+#[derive(Clone, Copy)]
+pub(crate) enum Opener {
+    /// A `block`.
+    Block(BlockType),
+    /// A `loop`.
+    Loop(BlockType),
+    /// An `if`: its first sequence.
+    Then(BlockType),
+    /// An `else`: the second sequence of an `if` that stands in the outer sequence already.
+    Else,
+}
+
+/// A sequence that is open, with another open inside it.
+#[derive(Drop)]
+pub(crate) struct Waiting {
+    /// Its number.
+    pub(crate) number: u32,
+    /// What was read of it.
+    pub(crate) instrs: List<Instr>,
+    /// What opened the sequence inside it.
+    pub(crate) opener: Opener,
+}
