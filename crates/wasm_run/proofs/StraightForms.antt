@@ -4,7 +4,8 @@ use Rattle.wasm_ast.specs.declared.types.ValType.TheVariants.{I32}
 use Rattle.wasm_ast.specs.declared.modules.Space.TheVariants.{Func}
 use Rattle.wasm_ast.specs.declared.instructions.Instr.{Instr}
 use Rattle.wasm_ast.specs.declared.modules.Module.{Module}
-use Rattle.wasm_ast.specs.Straight.{IsStraightBody, straight_module, straight_bytes, export_contents, code_contents, instr_bytes}
+use Rattle.wasm_run.specs.Straight.{IsStraightBody, straight_bytes, export_contents, code_contents, instr_bytes}
+use Rattle.wasm_ast.specs.Straight.{straight_module}
 use Rattle.wasm_run.specs.Forms.{HasStraightForm}
 
 -- there is nothing but a type, a function, an export and custom sections

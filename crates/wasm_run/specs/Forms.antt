@@ -2,7 +2,7 @@
 use Rattle.std.specs.Prelude.{◌≡◌, ℕ, List, []}
 use Rattle.wasm_ast.specs.declared.instructions.Instr.{Instr}
 use Rattle.wasm_ast.specs.declared.modules.Module.{Module}
-use Rattle.wasm_ast.specs.Straight.{SpellsStraight}
+use Rattle.wasm_run.specs.Straight.{SpellsStraight}
 
 -- Without its custom sections the module is a straight one that some bytes spell, with this name and this body.
 pub record HasStraightForm (m : Module) (name : List ℕ) (body : List Instr) : Type 0 where

@@ -1,2 +1,3 @@
 pub mod Reduction
 pub mod Forms
+pub mod Straight

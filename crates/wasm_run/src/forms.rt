@@ -3,7 +3,7 @@ ghost use Rattle.std.specs.Prelude.{◌≡◌, ◌↔◌, ◌<◌, ◌+◌, ◌*
 ghost use Rattle.wasm_ast.specs.declared.instructions.Instr.{Instr as OneInstr};
 ghost use Rattle.wasm_ast.specs.declared.modules.Space.TheVariants.{Func as FuncSpace};
 ghost use Rattle.wasm_ast.specs.declared.types.ValType.TheVariants.{I32};
-ghost use Rattle.wasm_ast.specs.Straight.{IsStraight, IsStraightBody, IsOneByte, code_contents, export_contents, instr_bytes, operands_after};
+ghost use Rattle.wasm_run.specs.Straight.{IsStraight, IsStraightBody, IsOneByte, code_contents, export_contents, instr_bytes, operands_after};
 ghost use Rattle.wasm_run.specs.Forms.{HasStraightForm};
 
 use wasm_ast::{Export, Func, FuncType, Instr, List, Module, Space, Text, ValType};

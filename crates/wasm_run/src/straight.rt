@@ -1,6 +1,6 @@
 // The run of a straight body.
 ghost use Rattle.std.specs.Prelude.{◌≡◌, ℕ, ◌+◌, ◌≤◌, ◌%◌, ◌^◌, List, [], ◌∷◌, ◌++◌, Some, IsSome, IfOk, OnOk, map, reverse, vec_len};
-ghost use Rattle.wasm_ast.specs.Straight.{IsStraightBody};
+ghost use Rattle.wasm_run.specs.Straight.{IsStraightBody};
 ghost use Rattle.wasm_ast.specs.declared.runs.Value.{Value};
 ghost use Rattle.wasm_run.specs.Reduction.{reduced, BoundedRun};
 

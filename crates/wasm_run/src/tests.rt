@@ -1,5 +1,5 @@
 ghost use Rattle.std.specs.Prelude.{◌⊎◌};
-ghost use Rattle.wasm_ast.specs.Straight.{IsOneByte};
+ghost use Rattle.wasm_run.specs.Straight.{IsOneByte};
 
 use crate::run_straight;
 use std::alloc::{AllocError, Global};

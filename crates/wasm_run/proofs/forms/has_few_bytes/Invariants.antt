@@ -1,6 +1,6 @@
 use Rattle.std.proofs.Common.{◌≡◌, ℕ, ◌+◌, ◌<◌, List, drop, length, flat_map}
 use Rattle.wasm_ast.specs.declared.instructions.Instr.{Instr}
-use Rattle.wasm_ast.specs.Straight.{instr_bytes}
+use Rattle.wasm_run.specs.Straight.{instr_bytes}
 use Rattle.wasm_run.proofs.forms.has_few_bytes.Given as goal
 
 -- the bytes of the instructions before a place are few, and those of the others are still to be counted

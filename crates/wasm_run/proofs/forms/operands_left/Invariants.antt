@@ -1,6 +1,6 @@
 use Rattle.std.proofs.Common.{◌≡◌, ℕ, ◌≤◌, List, drop, All}
 use Rattle.wasm_ast.specs.declared.instructions.Instr.{Instr}
-use Rattle.wasm_ast.specs.Straight.{IsStraight, operands_after}
+use Rattle.wasm_run.specs.Straight.{IsStraight, operands_after}
 use Rattle.wasm_run.proofs.forms.operands_left.Given as goal
 
 pub record IsUnderWay (instrs : List Instr) (at operands : ℕ) : Type 0 where

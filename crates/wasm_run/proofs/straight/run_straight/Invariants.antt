@@ -1,6 +1,6 @@
 use Rattle.std.proofs.Common.{◌≡◌, ℕ, List, [], length, Some, All, drop, reverse}
 use Rattle.wasm_ast.specs.declared.instructions.Instr.{Instr}
-use Rattle.wasm_ast.specs.Straight.{IsStraight, operands_after}
+use Rattle.wasm_run.specs.Straight.{IsStraight, operands_after}
 use Rattle.wasm_run.specs.Reduction.{outcome_of}
 use Rattle.wasm_run.proofs.straight.run_straight.Given as goal
 
