@@ -19,10 +19,9 @@ use Rattle.wasm_binary.specs.Instructions.{Opcode, opcode, Around, allowed, plai
 use Rattle.wasm_binary.proofs.GrammarLaws.{sequence_lawful, sequence_in, opcode_lawful, opcode_has_bytes}
 use Rattle.wasm_read.specs.declared.waiting.Opener.{Opener}
 use Rattle.wasm_read.specs.declared.waiting.Opener.TheVariants.{Block as BlockOpens, Loop as LoopOpens, Then, Else}
-use Rattle.wasm_read.specs.declared.waiting.Waiting.{Waiting}
 use Rattle.wasm_read.specs.declared.bad.ReadBad.{ReadBad}
 use Rattle.wasm_read.specs.Refusals.{fault_of}
-use Rattle.wasm_read.specs.Nests.{Seqs, Nest, IsNest, LeadsTo, first_nest, pushed, opened, written, back_in, closed_in, is_then, in_if, sequences_of, Answer, rest_of, ended_by, ending, rest, around, after, turned, closed_to, closed, is_alone, opener_for}
+use Rattle.wasm_read.specs.Nests.{Waiting, Seqs, Nest, IsNest, LeadsTo, first_nest, pushed, opened, written, back_in, closed_in, is_then, in_if, sequences_of, Answer, rest_of, ended_by, ending, rest, around, after, turned, closed_to, closed, is_alone, opener_for}
 
 -- ---- one after another
 

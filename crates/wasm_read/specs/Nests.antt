@@ -9,12 +9,17 @@ use Rattle.wasm_binary.specs.Faults.{Fault}
 use Rattle.wasm_binary.specs.Instructions.{Opcode, Around, Sequences, empty_sequence, all_of, after_opcode, sequence_below}
 use Rattle.wasm_read.specs.declared.waiting.Opener.{Opener}
 use Rattle.wasm_read.specs.declared.waiting.Opener.TheVariants.{Block as BlockOpens, Loop as LoopOpens, Then, Else}
-use Rattle.wasm_read.specs.declared.waiting.Waiting.{Waiting}
 use Rattle.wasm_read.specs.declared.bad.ReadBad.{ReadBad}
 use Rattle.wasm_read.specs.Refusals.{fault_of}
 
 abbrev pub Seqs : Type 0
 Seqs = List (List Instr)
+
+-- a sequence that is open, with another open inside it: its number, what was read of it, and what opened the one inside
+pub record Waiting : Type 0 where
+  pub number : ℕ
+  pub instrs : List Instr
+  pub opener : Opener
 
 pub record Nest : Type 0 where
   -- the sequences that were opened, by their numbers; one that is open is empty here

@@ -57,6 +57,7 @@ pub(crate) fn read_many<T: Entry>(
         entries.push(entry)?;
         at = next;
     }
+    entries.shrink();
     Ok((entries, at))
 }
 

@@ -64,6 +64,7 @@ pub(crate) fn read_many_by<T: EntryBy>(
         entries.push(entry)?;
         at = next;
     }
+    entries.shrink_to_fit();
     Ok((entries, at))
 }
 

@@ -37,7 +37,7 @@ pub(crate) fn read_expr(
             break;
         }
     }
-    let seqs = nest.into_seqs();
+    let seqs = nest.into_seqs(alloc)?;
     Ok((Expr { seqs }, at))
 }
 

@@ -75,7 +75,9 @@ impl Joined {
     fn into_groups(self) -> List<Group>
         ensures { result ≡ reverse self }
     {
-        List::new(self.groups)
+        let mut groups = List::new(self.groups);
+        groups.shrink();
+        groups
     }
 }
 

@@ -13,6 +13,7 @@ mod customs;
 mod entries;
 mod entries_by;
 mod expressions;
+mod fitting;
 mod framing;
 mod groups;
 mod imports;

@@ -3,6 +3,7 @@ ghost use Rattle.std.specs.Prelude.{◌≡◌, length, IfOk, OnOk, IfErr};
 ghost use Rattle.wasm_read.specs.Nests.{IsNest, first_nest, pushed, opened, ended_first, closed_in, closed, is_alone, in_if};
 
 use crate::bad::ReadBad;
+use crate::fitting::fitted;
 use crate::waiting::{Opener, Waiting};
 use std::alloc::{AllocError, Global};
 use std::marker::Model;
@@ -16,7 +17,7 @@ pub(crate) struct Nest {
     seqs: Vec<List<Instr>>,
     // The number of the innermost open sequence, and what was read of it.
     number: u32,
-    instrs: List<Instr>,
+    instrs: Vec<Instr>,
     // Those around it, the nearest last.
     outer: Vec<Waiting>,
 }
@@ -27,7 +28,7 @@ impl Model for Nest {
 
     ghost Value = { OneNest };
 
-    ghost view = { λ n. record { seqs = n.seqs.items; number = n.number; instrs = n.instrs; outer = reverse n.outer.items } };
+    ghost view = { λ n. record { seqs = n.seqs.items; number = n.number; instrs = n.instrs.items; outer = reverse n.outer.items } };
 }
 
 impl Nest {
@@ -40,7 +41,7 @@ impl Nest {
         Ok(Nest {
             seqs,
             number: 0,
-            instrs: List::new(Vec::new(alloc)),
+            instrs: Vec::new(alloc),
             outer: Vec::new(alloc),
         })
     }
@@ -72,7 +73,7 @@ impl Nest {
             return Err(ReadBad::NoMemory);
         };
         self.seqs.push(List::new(Vec::new(alloc)))?;
-        let instrs = mem::replace(&mut self.instrs, List::new(Vec::new(alloc)));
+        let instrs = mem::replace(&mut self.instrs, Vec::new(alloc));
         self.outer.push(Waiting {
             number: self.number,
             instrs,
@@ -90,8 +91,8 @@ impl Nest {
         ensures memory { IfErr result (λ bad. bad ≡ ReadBad.NoMemory) }
     {
         let number = self.number;
-        let instrs = mem::replace(&mut self.instrs, List::new(Vec::new(alloc)));
-        self.seqs[number as usize] = instrs;
+        let instrs = mem::replace(&mut self.instrs, Vec::new(alloc));
+        self.seqs[number as usize] = fitted(alloc, instrs)?;
         match self.outer.pop() {
             None => Ok(true),
             Some(waiting) => {
@@ -149,9 +150,9 @@ impl Nest {
     }
 
     /// All sequences, by their numbers.
-    pub(crate) fn into_seqs(self) -> List<List<Instr>>
-        ensures { result ≡ self.seqs }
+    pub(crate) fn into_seqs(self, alloc: Global) -> Result<List<List<Instr>>, AllocError>
+        ensures { IfOk result (λ seqs. seqs ≡ self.seqs) }
     {
-        List::new(self.seqs)
+        fitted(alloc, self.seqs)
     }
 }

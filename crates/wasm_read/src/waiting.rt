@@ -1,5 +1,6 @@
 // Sequences that wait for the one inside them to end.
-use wasm_ast::{BlockType, Instr, List};
+use std::marker::Model;
+use wasm_ast::{BlockType, Instr};
 
 /// What opened a sequence inside another.
 #[derive(Clone, Copy)]
@@ -20,7 +21,15 @@ pub(crate) struct Waiting {
     /// Its number.
     pub(crate) number: u32,
     /// What was read of it.
-    pub(crate) instrs: List<Instr>,
+    pub(crate) instrs: Vec<Instr>,
     /// What opened the sequence inside it.
     pub(crate) opener: Opener,
+}
+
+impl Model for Waiting {
+    ghost use Rattle.wasm_read.specs.Nests.{Waiting as OneWaiting};
+
+    ghost Value = { OneWaiting };
+
+    ghost view = { λ w. record { number = w.number; instrs = w.instrs.items; opener = w.opener } };
 }
