@@ -1,5 +1,6 @@
 mod Alignment
 mod Bodies
+mod Carrying
 mod ContextLemmas
 mod EntryLemmas
 mod Examples

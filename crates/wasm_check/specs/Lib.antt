@@ -1,3 +1,4 @@
+pub mod Carried
 pub mod Checker
 pub mod Constants
 pub mod Contexts

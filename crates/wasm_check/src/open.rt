@@ -5,8 +5,10 @@ ghost use Rattle.wasm_check.specs.declared.operands.Operand.TheVariants.{Of};
 ghost use Rattle.wasm_check.specs.Operands.{operands};
 ghost use Rattle.wasm_check.specs.Operators.{arrow};
 ghost use Rattle.wasm_check.specs.Contexts.{Context};
+ghost use Rattle.wasm_check.specs.Carried.{AreAlike, SeenPass, CanCarry};
 ghost use Rattle.wasm_check.specs.Checker.{Answers, SomeBy, Open, when, labels_of, each_fits, acts as acts_of, finished as finished_of, finished_other, opened as opened_of, opens as opens_of, turns as turns_of, ends as ends_of};
 
+use crate::carried::{Carried, Seen, told_of};
 use crate::stack::Stack;
 use std::alloc::{AllocError, Global};
 use std::marker::Model;
@@ -46,55 +48,89 @@ pub fn label_of<'a>(own: &'a [ValType], outer: &[OpenSeq<'a>], k: u32) -> Option
     Some(there.label)
 }
 
-// Whether each of these labels has as many types as wanted, and the operands match them.
-fn each<'a>(
+// Whether the label is there, carries as many types as wanted, and the operands match them. Of the labels of which the
+// same is told it looks at one.
+fn fits_one<'a>(
     own: &'a [ValType],
     outer: &[OpenSeq<'a>],
+    told: &[Option<Carried>],
+    wanted: &[ValType],
+    k: u32,
+    s: &Stack,
+    seen: &mut Seen,
+) -> Result<bool, AllocError>
+    requires alike { AreAlike (reverse told.now) (own.now ∷ labels_of (reverse outer.now)) }
+    requires pass { SeenPass (reverse told.now) (own.now ∷ labels_of (reverse outer.now)) wanted.now s.now seen.old }
+    ensures fits { IfOk result (λ b. CanCarry b (own.now ∷ labels_of (reverse outer.now)) wanted.now s.now k) }
+    ensures pass { IfOk result (λ b. SeenPass (reverse told.now) (own.now ∷ labels_of (reverse outer.now)) wanted.now s.now seen.new) }
+{
+    let Some(these) = label_of(own, outer, k) else {
+        return Ok(false);
+    };
+    let what = told_of(told, k);
+    if seen.has(what) {
+        return Ok(true);
+    }
+    if these.len() != wanted.len() {
+        return Ok(false);
+    }
+    let mut rest = s.peek();
+    if !rest.take_all(these) {
+        return Ok(false);
+    }
+    seen.put(what)?;
+    Ok(true)
+}
+
+// Whether each of these labels is there, carries as many types as wanted, and the operands match them.
+fn each<'a>(
+    alloc: Global,
+    own: &'a [ValType],
+    outer: &[OpenSeq<'a>],
+    told: &[Option<Carried>],
     wanted: &[ValType],
     labels: &[u32],
     s: &Stack,
-) -> bool
-    ensures { SomeBy result (each_fits (own.now ∷ labels_of (reverse outer.now)) wanted.now labels.now s.now.dead s.now.ops) s.now.ops }
+) -> Result<bool, AllocError>
+    requires { AreAlike (reverse told.now) (own.now ∷ labels_of (reverse outer.now)) }
+    ensures { IfOk result (λ b. SomeBy b (each_fits (own.now ∷ labels_of (reverse outer.now)) wanted.now labels.now s.now.dead s.now.ops) s.now.ops) }
 {
+    let mut seen = Seen::new(alloc);
     for k in labels {
-        let Some(these) = label_of(own, outer, *k) else {
-            return false;
-        };
-        if these.len() != wanted.len() {
-            return false;
-        }
-        let mut rest = s.peek();
-        if !rest.take_all(these) {
-            return false;
+        if !fits_one(own, outer, told, wanted, *k, s, &mut seen)? {
+            return Ok(false);
         }
     }
-    true
+    Ok(true)
 }
 
-/// `br_table`
+/// `br_table`. It costs its labels, and the values of each different block type among those that they name.
 pub fn choose<'a>(
+    alloc: Global,
     own: &'a [ValType],
     outer: &[OpenSeq<'a>],
+    told: &[Option<Carried>],
     labels: &[u32],
     last: u32,
     s: &mut Stack,
-) -> bool
-    ensures { (C : Context) → Answers result (acts_of C (own.now ∷ labels_of (reverse outer.now)) (BrTable labels.now last) s.old) s.new }
+) -> Result<bool, AllocError>
+    requires { AreAlike (reverse told.now) (own.now ∷ labels_of (reverse outer.now)) }
+    ensures { IfOk result (λ b. (C : Context) → Answers b (acts_of C (own.now ∷ labels_of (reverse outer.now)) (BrTable labels.now last) s.old) s.new) }
 {
     if !s.take(ValType::I32) {
-        return false;
+        return Ok(false);
     }
     let Some(wanted) = label_of(own, outer, last) else {
-        return false;
+        return Ok(false);
     };
-    if !each(own, outer, wanted, &[last], s) {
-        return false;
+    if !each(alloc, own, outer, told, wanted, &[last], s)? {
+        return Ok(false);
     }
-    if !each(own, outer, wanted, labels, s) {
-        return false;
+    if !each(alloc, own, outer, told, wanted, labels, s)? {
+        return Ok(false);
     }
     s.kill();
-    true
+    Ok(true)
 }
 
 // Whether a sequence with these results may end with these operands.

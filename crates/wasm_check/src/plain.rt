@@ -1,10 +1,12 @@
 // What the checker does with an instruction that has no sequence inside it.
 ghost use Rattle.std.specs.Prelude.{◌≡◌, ◌∷◌, [], IfOk, reverse};
+ghost use Rattle.wasm_check.specs.Carried.{AreAlike};
 ghost use Rattle.wasm_check.specs.Checker.{Answers, labels_of, acts as acts_of};
 ghost use Rattle.wasm_check.specs.Kept.{context};
 
 use crate::act::{applies, discard, leaves, may_leave, ref_is_null, select};
 use crate::calls::{call, call_indirect, ref_func, select_typed};
+use crate::carried::Carried;
 use crate::memories::{
     data_drop, load, memory_copy, memory_fill, memory_grow, memory_init, memory_size, store,
 };
@@ -16,18 +18,21 @@ use crate::tables::{
     elem_drop, table_copy, table_fill, table_get, table_grow, table_init, table_set, table_size,
 };
 use crate::variables::{global_get, global_set, local_get, local_set, local_tee};
-use std::alloc::AllocError;
+use std::alloc::{AllocError, Global};
 use wasm_ast::{Instr, ValType};
 
-/// The instruction, in a sequence whose label is `own`, inside the sequences `outer`. The answer is whether it is typed;
-/// if it isn't, the stack may have lost operands.
+/// The instruction, in a sequence whose label is `own`, inside the sequences `outer`, where `told` is told of the labels. The
+/// answer is whether it is typed; if it isn't, the stack may have lost operands.
 pub fn acts<'a>(
+    alloc: Global,
     scope: &Scope,
     own: &'a [ValType],
     outer: &[OpenSeq<'a>],
+    told: &[Option<Carried>],
     i: &Instr,
     s: &mut Stack,
 ) -> Result<bool, AllocError>
+    requires { AreAlike (reverse told.now) (own.now ∷ labels_of (reverse outer.now)) }
     ensures { IfOk result (λ b. Answers b (acts_of (context scope.now) (own.now ∷ labels_of (reverse outer.now)) i.now s.old) s.new) }
 {
     match i {
@@ -45,7 +50,9 @@ pub fn acts<'a>(
             None => Ok(false),
             Some(types) => Ok(may_leave(s, types)?),
         },
-        Instr::BrTable { labels, last } => Ok(choose(own, outer, labels.as_slice(), *last, s)),
+        Instr::BrTable { labels, last } => {
+            Ok(choose(alloc, own, outer, told, labels.as_slice(), *last, s)?)
+        }
         Instr::Return => Ok(leaves(s, scope.results())),
         Instr::Call(x) => Ok(call(scope, *x, s)?),
         Instr::CallIndirect { ty, table } => Ok(call_indirect(scope, *ty, *table, s)?),

@@ -1,14 +1,23 @@
-use Rattle.std.proofs.Common.{◌∙◌, ◌∷◌, reverse, ap, sym}
-use Rattle.wasm_check.specs.Operands.{operands}
-use Rattle.wasm_check.specs.Checker.{labels_of, popped}
-use Rattle.wasm_check.proofs.Labels.{each-fails, each-goes}
+use Rattle.std.proofs.Common.{◌∙◌, ◌∷◌, reverse, get_or, refl, subst}
+use Rattle.wasm_check.specs.Carried.{CanCarry}
+use Rattle.wasm_check.specs.Checker.{labels_of}
+use Rattle.wasm_check.proofs.Carrying.{none-seen, each-stops, each-on}
 use Rattle.wasm_check.proofs.open.each.Goals as goal
 
-pub returns-then-these-wanted : goal.returns-then-these-wanted
-returns-then-these-wanted c =
-    c.loop-k.invariant ∙ each-fails (c.args.own.now ∷ labels_of (reverse c.args.outer.now)) c.args.wanted.now c.args.labels.now c.loop-k.k-index c.in-Some.these.now c.args.s.now.dead c.args.s.now.ops c.loop-k-test.true c.in-Some.ensures c.if-these-wanted.true
+pub loop-k-init : goal.loop-k-init
+loop-k-init c =
+    (refl, none-seen (reverse c.args.told.now) (c.args.own.now ∷ labels_of (reverse c.args.outer.now)) c.args.wanted.now c.args.s.now c.new-seen.result c.new-seen.ensures)
+
+pub returns-then-not-branch : goal.returns-then-not-branch
+returns-then-not-branch c =
+    let ls = c.args.own.now ∷ labels_of (reverse c.args.outer.now) in
+    c.loop-k.invariant.0 ∙ each-stops ls c.args.wanted.now c.args.labels.now c.loop-k.k-index c.args.s.now c.loop-k-test.true
+    (subst (λ b. CanCarry b ls c.args.wanted.now c.args.s.now (get_or c.args.labels.now c.loop-k.k-index 0)) c.if-not-branch.true c.in_ok-fits_one.ensures.fits)
 
 pub loop-k-preserved : goal.loop-k-preserved
 loop-k-preserved c =
-    c.loop-k.invariant ∙ each-goes (c.args.own.now ∷ labels_of (reverse c.args.outer.now)) c.args.wanted.now c.args.labels.now c.loop-k.k-index c.in-Some.these.now c.args.s.now c.take_all.new.self c.loop-k-test.true c.in-Some.ensures c.if-these-wanted.false
-    (ap (λ s. popped (operands c.in-Some.these.now) s) (sym c.peek-rest.ensures) ∙ c.if-not-take_all.ensures)
+    let ls = c.args.own.now ∷ labels_of (reverse c.args.outer.now) in (
+      c.loop-k.invariant.0 ∙ each-on ls c.args.wanted.now c.args.labels.now c.loop-k.k-index c.args.s.now c.loop-k-test.true
+          (subst (λ b. CanCarry b ls c.args.wanted.now c.args.s.now (get_or c.args.labels.now c.loop-k.k-index 0)) c.if-not-branch.false c.in_ok-fits_one.ensures.fits),
+      c.in_ok-fits_one.ensures.pass,
+    )

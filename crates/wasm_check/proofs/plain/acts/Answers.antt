@@ -4,10 +4,10 @@ use Rattle.wasm_check.specs.Checker.{Answers, labels_of, acts}
 use Rattle.wasm_check.specs.Kept.{context}
 use Rattle.wasm_check.proofs.plain.acts.Goals as goal
 
-pub returns-in-BrTable : goal.returns-in-BrTable
-returns-in-BrTable c =
-    subst (λ i. Answers c.choose.result (acts (context c.args.scope.now) (c.args.own.now ∷ labels_of (reverse c.args.outer.now)) i c.args.s.now) c.choose.new.s)
-    (ap (λ l. BrTable l c.in-BrTable.last) c.as_slice.ensures ∙ sym c.in-BrTable.is) (c.choose.ensures (context c.args.scope.now))
+pub returns-in_ok-choose-in-BrTable : goal.returns-in_ok-choose-in-BrTable
+returns-in_ok-choose-in-BrTable c =
+    subst (λ i. Answers c.in_ok-choose-in-BrTable.field-0 (acts (context c.args.scope.now) (c.args.own.now ∷ labels_of (reverse c.args.outer.now)) i c.args.s.now) c.choose.new.s)
+    (ap (λ l. BrTable l c.in-BrTable.last) c.as_slice.ensures ∙ sym c.in-BrTable.is) (c.in_ok-choose-in-BrTable.ensures (context c.args.scope.now))
 
 pub returns-in_ok-ref_is_null-in-RefIsNull : goal.returns-in_ok-ref_is_null-in-RefIsNull
 returns-in_ok-ref_is_null-in-RefIsNull c =
