@@ -11,7 +11,8 @@ use Rattle.wasm_rules.specs.Words.{Kind}
 use Rattle.wasm_reduction.specs.Configurations.{Value, Label, Frame, Config, Question, Next, Goes, Draws, Asks, Ends}
 use Rattle.wasm_reduction.specs.Functions.{Body, Code, Imported, Function, functions}
 use Rattle.wasm_reduction.specs.Combinators.{cost_under, past, holding}
-use Rattle.wasm_reduction.specs.Control.{seq_of, given, give_back, finish}
+use Rattle.wasm_check.specs.Trees.{seq_of}
+use Rattle.wasm_reduction.specs.Control.{given, give_back, finish}
 use Rattle.wasm_reduction.specs.Steps.{act, step, step_code, answered, with_symbol}
 use Rattle.wasm_reduction.specs.Runs.{Trace, Going, Halt, Stands, Ended, Deep, Bound, Turned, On, Over, Reply, replied, follow_by, is_due, follow, then_follow, follows, most_frames}
 use Rattle.wasm_reduction.proofs.Moves.{Same, IsAgain, Called, Moves, Stays, Enters, Leaves, GivesBack, Calls, most_questions, Legal, act-legal}

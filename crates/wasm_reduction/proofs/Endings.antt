@@ -10,7 +10,9 @@ use Rattle.wasm_ast.specs.declared.modules.Func.{Func}
 use Rattle.wasm_ast.specs.declared.modules.Module.{Module}
 use Rattle.wasm_rules.specs.Words.{Kind}
 use Rattle.wasm_reduction.specs.Configurations.{Value, I32, I64, Ref, Label, Frame, Config, Question, Fails, Assumes, Stuck, Next, Goes, Draws, Asks, Ends}
-use Rattle.wasm_reduction.specs.Functions.{Host, HostSymbol, HostAssume, HostAssert, Body, Code, Imported, Function, functions, type_of}
+use Rattle.wasm_image.specs.declared.hosts.Host.{Host}
+use Rattle.wasm_image.specs.declared.hosts.Host.TheVariants.{SymbolI32, SymbolI64, Assume, Assert}
+use Rattle.wasm_reduction.specs.Functions.{Body, Code, Imported, Function, functions, type_of}
 use Rattle.wasm_reduction.specs.Combinators.{cost_under, past, holding, with_found, with_last, testing, assuming}
 use Rattle.wasm_reduction.specs.Control.{given, give_back, finish, frame_of, calling_host, calling, call}
 use Rattle.wasm_reduction.specs.Steps.{act, step, step_code, answered, with_symbol}
@@ -141,15 +143,16 @@ module _ {W : Type 0} (K : Kind W) (m : Module) (c : Config W) where
 
   host-moves : (vs : List (Value W)) (ns : List ℕ) (host : Option Host) → CallMoves m c (length ns) 1 (calling_host c vs ns host)
   host-moves vs ns None = tt
-  host-moves vs ns (Some (HostSymbol wide)) = holds-same vs
-  host-moves [] ns (Some HostAssume) = tt
-  host-moves (I32 w ∷ vs) ns (Some HostAssume) = assume-moves w ns vs
-  host-moves (I64 w ∷ vs) ns (Some HostAssume) = tt
-  host-moves (Ref r ∷ vs) ns (Some HostAssume) = tt
-  host-moves [] ns (Some HostAssert) = tt
-  host-moves (I32 w ∷ vs) ns (Some HostAssert) = assert-moves w ns vs
-  host-moves (I64 w ∷ vs) ns (Some HostAssert) = tt
-  host-moves (Ref r ∷ vs) ns (Some HostAssert) = tt
+  host-moves vs ns (Some SymbolI32) = holds-same vs
+  host-moves vs ns (Some SymbolI64) = holds-same vs
+  host-moves [] ns (Some Assume) = tt
+  host-moves (I32 w ∷ vs) ns (Some Assume) = assume-moves w ns vs
+  host-moves (I64 w ∷ vs) ns (Some Assume) = tt
+  host-moves (Ref r ∷ vs) ns (Some Assume) = tt
+  host-moves [] ns (Some Assert) = tt
+  host-moves (I32 w ∷ vs) ns (Some Assert) = assert-moves w ns vs
+  host-moves (I64 w ∷ vs) ns (Some Assert) = tt
+  host-moves (Ref r ∷ vs) ns (Some Assert) = tt
 
   frame-moves : (a x : ℕ) (f : Function) (code : Func) (vs : List (Value W)) → slice_get (functions m) x ≡ Some f → f.body ≡ Code code →
       (t : FuncType) (lacks : Bool) → CallMoves m c a 0 (if lacks then Ends Stuck else Goes (record c { frame = frame_of K t code (reverse (take (length t.params) vs)); callers = (holding c (drop (length t.params) vs)).frame ∷ c.callers }))

@@ -4,5 +4,12 @@ pub mod Endings
 pub mod OneRun
 pub mod Counting
 pub mod ShortModules
+pub mod ImageFunctions
+pub mod WordWidths
+pub mod WideParts
 pub mod MapLemmas
 pub mod MapSteps
+pub mod WideSteps
+pub mod WideStarts
+pub mod MapRuns
+pub mod ListedRuns

@@ -1,6 +1,6 @@
 -- What a map of words that keeps the operations makes of the parts of instructions' rules.
 use Rattle.std.proofs.Common.{◌≡◌, ℕ, zero, suc, ◌+◌, ◌^◌, ◌<◌, ◌≤◌, List, [], ◌∷◌, ◌++◌, map, take, drop, length, reverse, refl, sym, ap, ◌∙◌, subst, arith}
-use Rattle.std.specs.Prelude.{IsTrue, Bool, true, false, nat_lt, nat_le, if◌then◌else◌, Option, Some, None, slice_get, replicate}
+use Rattle.std.specs.Prelude.{Bool, true, false, nat_lt, nat_le, if◌then◌else◌, Option, Some, None, slice_get, replicate}
 use Rattle.std.proofs.lemmas.List.{map-append, reverse-append, take-map, drop-map, length-map}
 use Rattle.std.proofs.lemmas.Bool.Decides.{nat_tests}
 use Rattle.wasm_ast.specs.declared.types.ValType.{ValType}
@@ -8,7 +8,6 @@ use Rattle.wasm_ast.specs.declared.types.ValType.TheVariants.{I32 as I32Type, I6
 use Rattle.wasm_ast.specs.declared.modules.Group.{Group}
 use Rattle.wasm_ast.specs.declared.runs.Cause.{Cause}
 use Rattle.int_ops.specs.Integers.{minus_one}
-use Rattle.int_ops.specs.Operators.{operator_of, is_unary, is_binary, operand_bits, result_bits}
 use Rattle.wasm_rules.specs.Words.{Kind, Gives, HasSome, bits_where}
 use Rattle.wasm_rules.specs.Accesses.{lowest_bytes}
 use Rattle.wasm_reduction.specs.Configurations.{Reference, Value, I32, I64, Ref, Config, Next, Goes, Asks, Ends, Test, Stuck, Traps}
@@ -17,6 +16,7 @@ use Rattle.wasm_reduction.specs.Combinators.{holding, with_found, with_value, wi
 use Rattle.wasm_reduction.specs.Ranges.{with_element, indexing, ends_past, addressing, range_ends_past, filling, copying, with_copy, grown, growing}
 use Rattle.wasm_reduction.specs.Images.{value_image, values_image, config_image, next_image}
 use Rattle.wasm_reduction.specs.Maps.{ValueHas, ValuesHave, KeepsOperations}
+use Rattle.wasm_reduction.proofs.WordWidths.{IsBinary, IsUnary, ge_u, gt_u, add, or, extend_u, binary-has, unary-has, range-has}
 
 -- ---- lists
 
@@ -36,62 +36,6 @@ map-written h place xs list = simp (map-append, take-map, drop-map, length-map)
 
 pub map-part : {V W : Type 0} (h : V → W) (place n : ℕ) (list : List V) → part place n (map h list) ≡ map h (part place n list)
 map-part h place n list = simp (take-map, drop-map)
-
--- ---- operators of known widths
-
-pub record IsBinary (op operand result : ℕ) : Type 0 where
-  pub binary : IsTrue (is_binary op)
-  pub operand_is : operand_bits op ≡ operand
-  pub result_is : result_bits op ≡ result
-
-pub record IsUnary (op operand result : ℕ) : Type 0 where
-  pub unary : IsTrue (is_unary op)
-  pub operand_is : operand_bits op ≡ operand
-  pub result_is : result_bits op ≡ result
-
-pub ge_u : IsBinary 0x4F 32 32
-unfolding operator_of
-ge_u = record { binary = refl; operand_is = refl; result_is = refl }
-
-pub ne : IsBinary 0x47 32 32
-unfolding operator_of
-ne = record { binary = refl; operand_is = refl; result_is = refl }
-
-pub gt_u : IsBinary 0x56 64 32
-unfolding operator_of
-gt_u = record { binary = refl; operand_is = refl; result_is = refl }
-
-pub add : IsBinary 0x7C 64 64
-unfolding operator_of
-add = record { binary = refl; operand_is = refl; result_is = refl }
-
-pub or : IsBinary 0x72 32 32
-unfolding operator_of
-or = record { binary = refl; operand_is = refl; result_is = refl }
-
-pub and : IsBinary 0x71 32 32
-unfolding operator_of
-and = record { binary = refl; operand_is = refl; result_is = refl }
-
-pub eq32 : IsBinary 0x46 32 32
-unfolding operator_of
-eq32 = record { binary = refl; operand_is = refl; result_is = refl }
-
-pub eq64 : IsBinary 0x51 64 32
-unfolding operator_of
-eq64 = record { binary = refl; operand_is = refl; result_is = refl }
-
-pub eqz32 : IsUnary 0x45 32 32
-unfolding operator_of
-eqz32 = record { unary = refl; operand_is = refl; result_is = refl }
-
-pub eqz64 : IsUnary 0x50 64 32
-unfolding operator_of
-eqz64 = record { unary = refl; operand_is = refl; result_is = refl }
-
-pub extend_u : IsUnary 0xAD 32 64
-unfolding operator_of
-extend_u = record { unary = refl; operand_is = refl; result_is = refl }
 
 -- ---- the parts of rules
 
@@ -183,23 +127,14 @@ module _ {V W : Type 0} (Has : ℕ → V → Type 0) (h : V → W) where
     binary-image op operand result is a b p q =
         k.binary op a b is.binary (subst (λ n. Has n a) (sym is.operand_is) p) (subst (λ n. Has n b) (sym is.operand_is) q)
 
-    pub binary-has : (op operand result : ℕ) → IsBinary op operand result → (a b : V) → Has operand a → Has operand b → Has result (K.binary op a b)
-    binary-has op operand result is a b p q =
-        subst (λ n. Has n (K.binary op a b)) is.result_is
-        (g.binary op a b is.binary (subst (λ n. Has n a) (sym is.operand_is) p) (subst (λ n. Has n b) (sym is.operand_is) q))
-
     pub unary-image : (op operand result : ℕ) → IsUnary op operand result → (a : V) → Has operand a → h (K.unary op a) ≡ L.unary op (h a)
     unary-image op operand result is a p = k.unary op a is.unary (subst (λ n. Has n a) (sym is.operand_is) p)
-
-    pub unary-has : (op operand result : ℕ) → IsUnary op operand result → (a : V) → Has operand a → Has result (K.unary op a)
-    unary-has op operand result is a p =
-        subst (λ n. Has n (K.unary op a)) is.result_is (g.unary op a is.unary (subst (λ n. Has n a) (sym is.operand_is) p))
 
     ends-past-image : (place extent : V) (extent' : W) (size : ℕ) → h extent ≡ extent' → Has 32 place → Has 64 extent → size < 2 ^ 64 →
         h (ends_past K place extent size) ≡ ends_past L (h place) extent' size
     ends-past-image place extent extent' size e p q s =
-        let wide : Has 64 (K.unary 0xAD place) = unary-has 0xAD 32 64 extend_u place p in
-        let sum : Has 64 (K.binary 0x7C (K.unary 0xAD place) extent) = binary-has 0x7C 64 64 add (K.unary 0xAD place) extent wide q in
+        let wide : Has 64 (K.unary 0xAD place) = unary-has Has K g 0xAD 32 64 extend_u place p in
+        let sum : Has 64 (K.binary 0x7C (K.unary 0xAD place) extent) = binary-has Has K g 0x7C 64 64 add (K.unary 0xAD place) extent wide q in
         binary-image 0x56 64 32 gt_u _ _ sum (g.number 64 size s)
         ∙ ap (λ x. L.binary 0x56 x (h (K.number size))) (binary-image 0x7C 64 64 add _ _ wide q ∙ ap (λ x. L.binary 0x7C x (h extent)) (unary-image 0xAD 32 64 extend_u place p))
         ∙ ap (λ x. L.binary 0x56 (L.binary 0x7C (L.unary 0xAD (h place)) (h extent)) x) (k.number size)
@@ -207,11 +142,7 @@ module _ {V W : Type 0} (Has : ℕ → V → Type 0) (h : V → W) where
 
     range-image : (place count : V) (size : ℕ) → Has 32 place → Has 32 count → size < 2 ^ 64 → h (range_ends_past K place count size) ≡ range_ends_past L (h place) (h count) size
     range-image place count size p q s =
-        ends-past-image place (K.unary 0xAD count) _ size (unary-image 0xAD 32 64 extend_u count q) p (unary-has 0xAD 32 64 extend_u count q) s
-
-    range-has : (place count : V) (size : ℕ) → Has 32 place → Has 32 count → size < 2 ^ 64 → Has 32 (range_ends_past K place count size)
-    range-has place count size p q s =
-        binary-has 0x56 64 32 gt_u _ _ (binary-has 0x7C 64 64 add _ _ (unary-has 0xAD 32 64 extend_u place p) (unary-has 0xAD 32 64 extend_u count q)) (g.number 64 size s)
+        ends-past-image place (K.unary 0xAD count) _ size (unary-image 0xAD 32 64 extend_u count q) p (unary-has Has K g 0xAD 32 64 extend_u count q) s
 
     pub indexing-image : {A : Type 0} (cause : Cause) (index : V) (elements : List A) (ns : List ℕ) (go : ℕ → A → List ℕ → Next V) (on : ℕ → A → List ℕ → Next W) →
         Has 32 index → length elements < 2 ^ 32 → ((i : ℕ) (x : A) (ns : List ℕ) → on i x ns ≡ next_image h (go i x ns)) →
@@ -237,7 +168,7 @@ module _ {V W : Type 0} (Has : ℕ → V → Type 0) (h : V → W) where
         copying L cause (h to) (h from) (h count) target source ns on ≡ next_image h (copying K cause to from count target source ns go)
     copying-image cause to from count target source ns go on a b c s t f =
         trapping-image h _ _
-        (binary-image 0x72 32 32 or _ _ (range-has from count source b c t) (range-has to count target a c s)
+        (binary-image 0x72 32 32 or _ _ (range-has Has K g from count source b c t) (range-has Has K g to count target a c s)
         ∙ ap (λ x. L.binary 0x72 x (h (range_ends_past K to count target))) (range-image from count source b c t)
         ∙ ap (λ x. L.binary 0x72 (range_ends_past L (h from) (h count) source) x) (range-image to count target a c s))
         cause ns _ _ (λ ns. picking-image h to ns _ _ (λ t ns. picking-image h from ns _ _ (λ s ns. picking-image h count ns _ _ (λ n ns.

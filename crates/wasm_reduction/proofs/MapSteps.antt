@@ -1,10 +1,9 @@
 -- A step commutes with a map of words that keeps the operations.
-use Rattle.std.proofs.Common.{◌≡◌, ℕ, zero, suc, ◌+◌, ◌*◌, ◌/◌, ◌^◌, ◌<◌, ◌≤◌, List, [], ◌∷◌, ◌++◌, map, drop, length, reverse, refl, sym, ap, ◌∙◌, subst, inl, inr, arith}
+use Rattle.std.proofs.Common.{◌≡◌, ℕ, zero, suc, ◌+◌, ◌*◌, ◌/◌, ◌^◌, ◌<◌, ◌≤◌, List, [], ◌∷◌, ◌++◌, map, drop, length, reverse, refl, sym, ap, ◌∙◌, subst, arith}
 use Rattle.std.specs.Prelude.{All, Bool, true, false, Option, Some, None, slice_get, replicate}
 use Rattle.std.specs.List.{AllByRecursion}
 use Rattle.std.specs.Option.{option_map_or}
-use Rattle.std.proofs.lemmas.Grind.{pieces}
-use Rattle.std.proofs.lemmas.List.{map-append, drop-map, length-map, map-set, length-drop, length-take-le}
+use Rattle.std.proofs.lemmas.List.{map-append, drop-map, length-map, map-set}
 use Rattle.wasm_ast.specs.declared.types.FuncType.{FuncType}
 use Rattle.wasm_ast.specs.declared.types.BlockType.{BlockType}
 use Rattle.wasm_ast.specs.declared.instructions.Instr.{Instr}
@@ -19,42 +18,34 @@ use Rattle.int_ops.specs.declared.operators.Operator.{Operator}
 use Rattle.int_ops.specs.Integers.{least, minus_one, truth}
 use Rattle.int_ops.specs.Operators.{operator_of, is_of_one, is_of_two, bits_of, divides, is_div_s}
 use Rattle.wasm_rules.specs.declared.accesses.Access.{Access}
-use Rattle.wasm_rules.specs.Words.{Kind, Gives, HasSome, CanJoin, bits_where}
+use Rattle.wasm_rules.specs.Words.{Kind, Gives, CanJoin, bits_where}
 use Rattle.wasm_rules.specs.Accesses.{load_of, store_of, extended, accessed, lowest_bytes}
 use Rattle.wasm_rules.proofs.AccessLemmas.{KeepsWidth, IsRow, load_row, store_row}
 use Rattle.wasm_reduction.specs.Configurations.{Reference, FuncRef, ExternRef, Value, I32, I64, Ref, Label, Frame, Config, Next, Goes, Ends, Returns}
-use Rattle.wasm_reduction.specs.Functions.{Host, HostSymbol, HostAssume, HostAssert, Body, Code, Imported, Function, functions, type_of, same_function_type, block_type, first_locals}
+use Rattle.wasm_check.specs.Trees.{seq_of}
+use Rattle.wasm_image.specs.declared.hosts.Host.{Host}
+use Rattle.wasm_image.specs.declared.hosts.Host.TheVariants.{SymbolI32, SymbolI64, Assume, Assert}
+use Rattle.wasm_reduction.specs.Functions.{Body, Code, Imported, Function, functions, type_of, same_function_type, block_type, first_locals}
 use Rattle.wasm_reduction.specs.Combinators.{cost_under, past, holding, with_locals, with_globals, with_memory, valued, with_found, written, part}
 use Rattle.wasm_reduction.specs.Numeric.{is_wide, is_zero, is_overflow, checking, checking_overflow, operating}
 use Rattle.wasm_reduction.specs.Parametric.{selecting}
-use Rattle.wasm_reduction.specs.Control.{seq_of, entering, given, give_back, finish, block, loop, branch, br, choosing, frame_of, calling_host, calling, calling_of_type, calling_reference}
+use Rattle.wasm_reduction.specs.Control.{entering, given, give_back, finish, block, loop, branch, br, choosing, frame_of, calling_host, calling, calling_of_type, calling_reference}
 use Rattle.wasm_reduction.specs.Tables.{null_of, is_null}
 use Rattle.wasm_reduction.specs.Memories.{page_bytes}
 use Rattle.wasm_reduction.specs.Steps.{act, step, step_code}
 use Rattle.wasm_reduction.specs.Images.{value_image, values_image, label_image, frame_image, config_image, next_image}
 use Rattle.wasm_reduction.specs.Maps.{ValueHas, ValuesHave, InRange, NextInRange, IsWide, KeepsOperations}
-use Rattle.wasm_reduction.proofs.MapLemmas.{map-replicate, map-reverse, map-written, map-part, IsBinary, IsUnary, ne, and, eq32, eq64, eqz32, eqz64, found-image, last-image, testing-image, trapping-image, assuming-image, value-image, word-image, reference-image, copy-image, binary-image, binary-has, unary-image, indexing-image, addressing-image, filling-image, copying-image, growing-image, numbers-image, lowest-image, locals-image}
+use Rattle.wasm_reduction.proofs.WordWidths.{IsBinary, IsUnary, ne, and, eq32, eq64, eqz32, eqz64, binary-has}
+use Rattle.wasm_reduction.proofs.WideParts.{bits-of-wide, joins-few, each-get, has-some, part-length, part-all}
+use Rattle.wasm_reduction.proofs.MapLemmas.{map-replicate, map-reverse, map-written, map-part, found-image, last-image, testing-image, trapping-image, assuming-image, value-image, word-image, reference-image, copy-image, binary-image, unary-image, indexing-image, addressing-image, filling-image, copying-image, growing-image, numbers-image, lowest-image, locals-image}
 
-small-get : {A : Type 0} (P : A → Type 0) (xs : List A) (n : ℕ) (x : A) → AllByRecursion P xs → slice_get xs n ≡ Some x → P x
-small-get P [] n x h e = absurd cc
-small-get P (y ∷ ys) zero x h e = let same : y ≡ x = cc in subst P same h.0
-small-get P (y ∷ ys) (suc n) x h e = small-get P ys n x h.1 e
-
-bits-of-wide : (width : Width) → bits_of width ≡ bits_where (is_wide width)
-bits-of-wide W32 = refl
-bits-of-wide W64 = refl
-
-valued-image : {V W : Type 0} (h : V → W) (wide : Bool) (w : V) → valued wide (h w) ≡ value_image h (valued wide w)
+pub valued-image : {V W : Type 0} (h : V → W) (wide : Bool) (w : V) → valued wide (h w) ≡ value_image h (valued wide w)
 valued-image h false w = refl
 valued-image h true w = refl
 
 module _ {V W : Type 0} (Has : ℕ → V → Type 0) (h : V → W) (K : Kind V) (L : Kind W) (g : Gives K Has) (k : KeepsOperations Has K L h) (m : Module) (c : Config V) where
   abbrev C : Config W
   C = config_image h c
-
-  has-some : (wide : Bool) (w : V) → Has (bits_where wide) w → HasSome Has w
-  has-some false w p = inr (inl p)
-  has-some true w p = inr (inr p)
 
   number-value : (vs : List (Value V)) (n : ℕ) → Goes (holding C (I32 (L.number n) ∷ values_image h vs)) ≡ next_image h (Goes (holding c (I32 (K.number n) ∷ vs)))
   number-value vs n = ap (λ x. Goes (holding C (I32 x ∷ values_image h vs))) (sym (k.number n))
@@ -80,7 +71,7 @@ module _ {V W : Type 0} (Has : ℕ → V → Type 0) (h : V → W) (K : Kind V) 
   both-image : (op bits n o : ℕ) → IsBinary op bits 32 → (a b : V) → Has bits a → Has bits b → n < 2 ^ bits → o < 2 ^ bits →
       h (K.binary 0x71 (K.binary op a (K.number n)) (K.binary op b (K.number o))) ≡ L.binary 0x71 (L.binary op (h a) (L.number n)) (L.binary op (h b) (L.number o))
   both-image op bits n o is a b p q s t =
-      binary-image Has h K L g k 0x71 32 32 and _ _ (binary-has Has h K L g k op bits 32 is a (K.number n) p (g.number bits n s)) (binary-has Has h K L g k op bits 32 is b (K.number o) q (g.number bits o t))
+      binary-image Has h K L g k 0x71 32 32 and _ _ (binary-has Has K g op bits 32 is a (K.number n) p (g.number bits n s)) (binary-has Has K g op bits 32 is b (K.number o) q (g.number bits o t))
       ∙ ap (λ x. L.binary 0x71 x (h (K.binary op b (K.number o)))) (binary-image Has h K L g k op bits 32 is a (K.number n) p (g.number bits n s) ∙ ap (λ x. L.binary op (h a) x) (k.number n))
       ∙ ap (λ x. L.binary 0x71 (L.binary op (h a) (L.number n)) x) (binary-image Has h K L g k op bits 32 is b (K.number o) q (g.number bits o t) ∙ ap (λ x. L.binary op (h b) x) (k.number o))
 
@@ -119,8 +110,8 @@ module _ {V W : Type 0} (Has : ℕ → V → Type 0) (h : V → W) (K : Kind V) 
 
   selecting-image : (rest : List (Value V)) (ns : List ℕ) (w : V) (first second : Value V) → Has 32 w → ValueHas Has first → ValueHas Has second →
       selecting L C (values_image h rest) ns (h w) (value_image h first) (value_image h second) ≡ next_image h (selecting K c rest ns w first second)
-  selecting-image rest ns w (I32 a) (I32 b) q p r = ap (λ x. Goes (holding C (I32 x ∷ values_image h rest))) (sym (k.choose false w a b (has-some false w q) p r))
-  selecting-image rest ns w (I64 a) (I64 b) q p r = ap (λ x. Goes (holding C (I64 x ∷ values_image h rest))) (sym (k.choose true w a b (has-some false w q) p r))
+  selecting-image rest ns w (I32 a) (I32 b) q p r = ap (λ x. Goes (holding C (I32 x ∷ values_image h rest))) (sym (k.choose false w a b (has-some Has false w q) p r))
+  selecting-image rest ns w (I64 a) (I64 b) q p r = ap (λ x. Goes (holding C (I64 x ∷ values_image h rest))) (sym (k.choose true w a b (has-some Has false w q) p r))
   selecting-image rest ns w (Ref a) (Ref b) q p r = testing-image h w (h w) refl ns _ _ _ _ (λ ns. refl) (λ ns. refl)
   selecting-image rest ns w (I32 a) (I64 b) q p r = refl
   selecting-image rest ns w (I32 a) (Ref b) q p r = refl
@@ -165,9 +156,10 @@ module _ {V W : Type 0} (Has : ℕ → V → Type 0) (h : V → W) (K : Kind V) 
 
   host-image : (vs : List (Value V)) (ns : List ℕ) (host : Option Host) → ValuesHave Has vs → calling_host C (values_image h vs) ns host ≡ next_image h (calling_host c vs ns host)
   host-image vs ns None p = refl
-  host-image vs ns (Some (HostSymbol wide)) p = refl
-  host-image vs ns (Some HostAssume) p = word-image Has h false vs _ _ p (λ w rest q p. assuming-image h w ns _ _ _ _ refl refl)
-  host-image vs ns (Some HostAssert) p = word-image Has h false vs _ _ p (λ w rest q p. testing-image h w (h w) refl ns _ _ _ _ (λ ns. refl) (λ ns. refl))
+  host-image vs ns (Some SymbolI32) p = refl
+  host-image vs ns (Some SymbolI64) p = refl
+  host-image vs ns (Some Assume) p = word-image Has h false vs _ _ p (λ w rest q p. assuming-image h w ns _ _ _ _ refl refl)
+  host-image vs ns (Some Assert) p = word-image Has h false vs _ _ p (λ w rest q p. testing-image h w (h w) refl ns _ _ _ _ (λ ns. refl) (λ ns. refl))
 
   calling-image : (vs : List (Value V)) (ns : List ℕ) (f : Function) (body : Body) → ValuesHave Has vs → calling L m C (values_image h vs) ns f body ≡ next_image h (calling K m c vs ns f body)
   calling-image vs ns f (Imported host) p = host-image vs ns host p
@@ -202,15 +194,6 @@ module _ {V W : Type 0} (Has : ℕ → V → Type 0) (h : V → W) (K : Kind V) 
           k.unary op (K.join access.wide bytes) w.0 (subst (λ n. Has n (K.join access.wide bytes)) (sym w.1) (g.join access.wide bytes can p))
           ∙ ap (λ x. L.unary op x) (k.join access.wide bytes can p)
 
-  joins-few : (wide : Bool) (n : ℕ) → CanJoin wide n → n ≤ 8
-  joins-few wide n q = elim q [ inl e ↦ omega (arith, e) | inr q ↦ elim q [ inl e ↦ omega (arith, e) | inr q ↦ elim q [ inl e ↦ omega (arith, e) | inr e ↦ omega (arith, e.0) ] ] ]
-
-  part-length : (place n : ℕ) (xs : List V) → place + n ≤ length xs → length (part place n xs) ≡ n
-  part-length place n xs l = length-take-le n (drop place xs) (omega (arith, l, length-drop place xs))
-
-  part-have : (place n : ℕ) (xs : List V) → All (Has 8) xs → All (Has 8) (part place n xs)
-  part-have place n xs p = search (pieces, p)
-
   writing-image : (rest : List (Value V)) (place : ℕ) (xs : List V) (xs' : List W) → xs' ≡ map h xs →
       Goes (with_memory (holding C (values_image h rest)) (written place xs' (map h c.store.memory))) ≡ next_image h (Goes (with_memory (holding c rest) (written place xs c.store.memory)))
   writing-image rest place xs xs' e =
@@ -235,7 +218,7 @@ module _ {V W : Type 0} (Has : ℕ → V → Type 0) (h : V → W) (K : Kind V) 
   act-image vs ns Return p me ms ts es ds r = last-image h c.frame.arity vs (λ results rest. give_back c results c.callers) (λ results rest. give_back C results C.callers) (λ results rest. give_back-image results c.callers)
   act-image vs ns (Call x) p me ms ts es ds r = found-image h (slice_get (functions m) x) _ _ (λ f e. calling-image vs ns f f.body p)
   act-image vs ns (CallIndirect ty x) p me ms ts es ds r = found-image h (slice_get m.types ty) _ _ (λ type e. found-image h (slice_get c.store.tables x) _ _ (λ elements e.
-      word-image Has h false vs _ _ p (λ index rest q p. indexing-image Has h K L g k Undefined index elements ns _ _ q (small-get _ c.store.tables x elements ts e) (λ i reference ns. called-image rest ns type reference p))))
+      word-image Has h false vs _ _ p (λ index rest q p. indexing-image Has h K L g k Undefined index elements ns _ _ q (each-get _ c.store.tables x elements ts e) (λ i reference ns. called-image rest ns type reference p))))
   act-image vs ns (RefNull kind) p me ms ts es ds r = found-image h (null_of kind) _ _ (λ x e. refl)
   act-image vs ns RefIsNull p me ms ts es ds r = reference-image Has h vs _ _ p (λ x rest p. number-value rest (truth (is_null x)))
   act-image vs ns (RefFunc x) p me ms ts es ds r = refl
@@ -253,34 +236,34 @@ module _ {V W : Type 0} (Has : ℕ → V → Type 0) (h : V → W) (K : Kind V) 
   act-image vs ns (GlobalSet x) p me ms ts es ds r = get-image c.store.globals x _ _ (λ old. value-image Has h vs _ _ p (λ v rest q p.
       ap (λ l. Goes (with_globals (holding C (values_image h rest)) l)) (sym (map-set (value_image h) c.store.globals x v))))
   act-image vs ns (TableGet x) p me ms ts es ds r = found-image h (slice_get c.store.tables x) _ _ (λ elements e. word-image Has h false vs _ _ p (λ index rest q p.
-      indexing-image Has h K L g k Table index elements ns _ _ q (small-get _ c.store.tables x elements ts e) (λ i reference ns. refl)))
+      indexing-image Has h K L g k Table index elements ns _ _ q (each-get _ c.store.tables x elements ts e) (λ i reference ns. refl)))
   act-image vs ns (TableSet x) p me ms ts es ds r = found-image h (slice_get c.store.tables x) _ _ (λ elements e. reference-image Has h vs _ _ p (λ reference rest p. word-image Has h false rest _ _ p (λ index rest q p.
-      indexing-image Has h K L g k Table index elements ns _ _ q (small-get _ c.store.tables x elements ts e) (λ i old ns. refl))))
+      indexing-image Has h K L g k Table index elements ns _ _ q (each-get _ c.store.tables x elements ts e) (λ i old ns. refl))))
   act-image vs ns (TableInit y x) p me ms ts es ds r = found-image h (slice_get c.store.tables x) _ _ (λ target e. found-image h (slice_get c.store.elems y) _ _ (λ source f. copy-image Has h vs _ _ p (λ to from count rest a b d.
       copying-image Has h K L g k Table to from count (length target) (length source) ns _ _ a b d
-      (let small : length target < 2 ^ 32 = small-get _ c.store.tables x target ts e in omega (arith, small)) (small-get _ c.store.elems y source es f) (λ t f n. refl))))
+      (let small : length target < 2 ^ 32 = each-get _ c.store.tables x target ts e in omega (arith, small)) (each-get _ c.store.elems y source es f) (λ t f n. refl))))
   act-image vs ns (ElemDrop y) p me ms ts es ds r = found-image h (slice_get c.store.elems y) _ _ (λ old e. refl)
   act-image vs ns (TableCopy x y) p me ms ts es ds r = found-image h (slice_get c.store.tables x) _ _ (λ target e. found-image h (slice_get c.store.tables y) _ _ (λ source f. copy-image Has h vs _ _ p (λ to from count rest a b d.
       copying-image Has h K L g k Table to from count (length target) (length source) ns _ _ a b d
-      (let small : length target < 2 ^ 32 = small-get _ c.store.tables x target ts e in omega (arith, small))
-      (let small : length source < 2 ^ 32 = small-get _ c.store.tables y source ts f in omega (arith, small)) (λ t f n. refl))))
+      (let small : length target < 2 ^ 32 = each-get _ c.store.tables x target ts e in omega (arith, small))
+      (let small : length source < 2 ^ 32 = each-get _ c.store.tables y source ts f in omega (arith, small)) (λ t f n. refl))))
   act-image vs ns (TableGrow x) p me ms ts es ds r = found-image h (slice_get c.store.tables x) _ _ (λ elements e. found-image h (slice_get m.tables x) _ _ (λ type f.
       word-image Has h false vs _ _ p (λ count rest q p. reference-image Has h rest _ _ p (λ reference rest p. growing-image Has h K L g k c rest count (length elements) _ ns _ _ (λ n. refl)))))
   act-image vs ns (TableSize x) p me ms ts es ds r = found-image h (slice_get c.store.tables x) _ _ (λ elements e. number-value vs (length elements))
   act-image vs ns (TableFill x) p me ms ts es ds r = found-image h (slice_get c.store.tables x) _ _ (λ elements e. word-image Has h false vs _ _ p (λ count rest d p. reference-image Has h rest _ _ p (λ reference rest p. word-image Has h false rest _ _ p (λ to rest a p.
-      filling-image Has h K L g k Table to count (length elements) ns _ _ a d (let small : length elements < 2 ^ 32 = small-get _ c.store.tables x elements ts e in omega (arith, small)) (λ t n. refl)))))
+      filling-image Has h K L g k Table to count (length elements) ns _ _ a d (let small : length elements < 2 ^ 32 = each-get _ c.store.tables x elements ts e in omega (arith, small)) (λ t n. refl)))))
   act-image vs ns (Load op align offset) p me ms ts es ds r = rw (length-map c.store.memory h) (found-image h (load_of op) _ _ (λ access e. word-image Has h false vs _ _ p (λ address rest q p.
       let row : IsRow access = load_row op access (sym e) in
       let few : access.bytes ≤ 8 = joins-few access.wide access.bytes row.count in
       addressing-image Has h K L g k Memory address (offset + access.bytes) (length c.store.memory) ns _ _ q (omega (arith, few, r)) ms (λ at l.
       ap (λ bytes. Goes (holding C (valued access.wide (accessed L access bytes) ∷ values_image h rest))) (map-part h (at + offset) access.bytes c.store.memory)
       ∙ word-value access.wide rest (accessed K access (part (at + offset) access.bytes c.store.memory)) (accessed L access (map h (part (at + offset) access.bytes c.store.memory)))
-      (accessed-image access (part (at + offset) access.bytes c.store.memory) row (part-length (at + offset) access.bytes c.store.memory (omega (arith, l))) (part-have (at + offset) access.bytes c.store.memory me))))))
+      (accessed-image access (part (at + offset) access.bytes c.store.memory) row (part-length (at + offset) access.bytes c.store.memory (omega (arith, l))) (part-all (Has 8) (at + offset) access.bytes c.store.memory me))))))
   act-image vs ns (StoreInstr op align offset) p me ms ts es ds r = rw (length-map c.store.memory h) (found-image h (store_of op) _ _ (λ access e. word-image Has h access.wide vs _ _ p (λ w rest b p. word-image Has h false rest _ _ p (λ address rest q p.
       let row : IsRow access = store_row op access (sym e) in
       let few : access.bytes ≤ 8 = joins-few access.wide access.bytes row.count in
       addressing-image Has h K L g k Memory address (offset + access.bytes) (length c.store.memory) ns _ _ q (omega (arith, few, r)) ms (λ at l.
-      writing-image rest (at + offset) (lowest_bytes K access.bytes w) (lowest_bytes L access.bytes (h w)) (lowest-image Has h K L g k access.bytes w few (has-some access.wide w b)))))))
+      writing-image rest (at + offset) (lowest_bytes K access.bytes w) (lowest_bytes L access.bytes (h w)) (lowest-image Has h K L g k access.bytes w few (has-some Has access.wide w b)))))))
   act-image vs ns MemorySize p me ms ts es ds r = rw (length-map c.store.memory h) (number-value vs (length c.store.memory / page_bytes))
   act-image vs ns MemoryGrow p me ms ts es ds r = rw (length-map c.store.memory h) (found-image h (slice_get m.memories 0) _ _ (λ limits e. word-image Has h false vs _ _ p (λ count rest q p.
       growing-image Has h K L g k c rest count (length c.store.memory / page_bytes) _ ns _ _ (λ n.
@@ -289,7 +272,7 @@ module _ {V W : Type 0} (Has : ℕ → V → Type 0) (h : V → W) (K : Kind V) 
       ∙ ap (λ l. map h c.store.memory ++ l) (sym (map-replicate h (n * page_bytes) (K.number 0)))
       ∙ sym (map-append h c.store.memory (replicate (n * page_bytes) (K.number 0))))))))
   act-image vs ns (MemoryInit x) p me ms ts es ds r = rw (length-map c.store.memory h) (found-image h (slice_get c.store.datas x) _ _ (λ source e. copy-image Has h vs _ _ p (λ to from count rest a b d.
-      copying-image Has h K L g k Memory to from count (length c.store.memory) (length source) ns _ _ a b d ms (small-get _ c.store.datas x source ds e) (λ t f n.
+      copying-image Has h K L g k Memory to from count (length c.store.memory) (length source) ns _ _ a b d ms (each-get _ c.store.datas x source ds e) (λ t f n.
       writing-image rest t (map K.number (part f n source)) (map L.number (part f n source)) (numbers-image Has h K L g k (part f n source))))))
   act-image vs ns (DataDrop x) p me ms ts es ds r = found-image h (slice_get c.store.datas x) _ _ (λ old e. refl)
   act-image vs ns MemoryCopy p me ms ts es ds r = rw (length-map c.store.memory h) (copy-image Has h vs _ _ p (λ to from count rest a b d.
@@ -298,7 +281,7 @@ module _ {V W : Type 0} (Has : ℕ → V → Type 0) (h : V → W) (K : Kind V) 
   act-image vs ns MemoryFill p me ms ts es ds r = rw (length-map c.store.memory h) (word-image Has h false vs _ _ p (λ count rest d p. word-image Has h false rest _ _ p (λ w rest b p. word-image Has h false rest _ _ p (λ to rest a p.
       filling-image Has h K L g k Memory to count (length c.store.memory) ns _ _ a d ms (λ t n.
       writing-image rest t (replicate n (K.byte w 0)) (replicate n (L.byte (h w) 0))
-      (ap (λ x. replicate n x) (sym (k.byte w 0 (omega arith) (has-some false w b))) ∙ sym (map-replicate h n (K.byte w 0))))))))
+      (ap (λ x. replicate n x) (sym (k.byte w 0 (omega arith) (has-some Has false w b))) ∙ sym (map-replicate h n (K.byte w 0))))))))
   act-image vs ns (Const32 n) p me ms ts es ds r = number-value vs n
   act-image vs ns (Const64 n) p me ms ts es ds r = number-wide vs n
   act-image vs ns (Num op) p me ms ts es ds r = found-image h (operator_of op) _ _ (λ o e. operating-image vs ns op o o.operation p e refl)

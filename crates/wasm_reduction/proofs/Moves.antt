@@ -17,12 +17,15 @@ use Rattle.int_ops.specs.Operators.{operator_of, divides, is_div_s}
 use Rattle.wasm_rules.specs.Words.{Kind}
 use Rattle.wasm_rules.specs.Accesses.{load_of, store_of}
 use Rattle.wasm_reduction.specs.Configurations.{Reference, FuncRef, ExternRef, Value, I32, I64, Ref, Store, Label, Frame, Config, Next, Goes, Draws, Asks, Ends}
-use Rattle.wasm_reduction.specs.Functions.{Host, HostSymbol, HostAssume, HostAssert, Body, Code, Imported, Function, functions, type_of, same_function_type, block_type}
+use Rattle.wasm_check.specs.Trees.{seq_of}
+use Rattle.wasm_image.specs.declared.hosts.Host.{Host}
+use Rattle.wasm_image.specs.declared.hosts.Host.TheVariants.{SymbolI32, SymbolI64, Assume, Assert}
+use Rattle.wasm_reduction.specs.Functions.{Body, Code, Imported, Function, functions, type_of, same_function_type, block_type}
 use Rattle.wasm_reduction.specs.Combinators.{word_of, reference_of, holding, with_found, with_value, with_word, with_reference, with_last, testing, trapping_if, picking, assuming, within}
 use Rattle.wasm_reduction.specs.Ranges.{with_element, indexing, addressing, filling, copying, with_copy, grown, growing}
 use Rattle.wasm_reduction.specs.Numeric.{checking, checking_overflow, operating}
 use Rattle.wasm_reduction.specs.Parametric.{selecting}
-use Rattle.wasm_reduction.specs.Control.{seq_of, given, give_back, entering, block, loop, branch, br, choosing, frame_of, calling_host, calling, calling_of_type, calling_reference}
+use Rattle.wasm_reduction.specs.Control.{given, give_back, entering, block, loop, branch, br, choosing, frame_of, calling_host, calling, calling_of_type, calling_reference}
 use Rattle.wasm_reduction.specs.Tables.{null_of}
 use Rattle.wasm_reduction.specs.Steps.{act}
 
@@ -263,9 +266,10 @@ module _ {W : Type 0} (m : Module) (c : Config W) (a q : ℕ) where
 
     host-legal : (vs : List (Value W)) (ns : List ℕ) (j : ℕ) (host : Option Host) → a ≡ j + length ns → j < q → L (calling_host c vs ns host)
     host-legal vs ns j None e l = tt
-    host-legal vs ns j (Some (HostSymbol wide)) e l = same
-    host-legal vs ns j (Some HostAssume) e l = word-legal false vs _ (λ w rest. assuming-legal w ns j _ _ e l tt stays)
-    host-legal vs ns j (Some HostAssert) e l = word-legal false vs _ (λ w rest. testing-legal w ns j _ _ e l (λ ns e. tt) (λ ns e. stays))
+    host-legal vs ns j (Some SymbolI32) e l = same
+    host-legal vs ns j (Some SymbolI64) e l = same
+    host-legal vs ns j (Some Assume) e l = word-legal false vs _ (λ w rest. assuming-legal w ns j _ _ e l tt stays)
+    host-legal vs ns j (Some Assert) e l = word-legal false vs _ (λ w rest. testing-legal w ns j _ _ e l (λ ns e. tt) (λ ns e. stays))
 
     found-is-legal : {A : Type 0} (o : Option A) (go : A → Next W) → ((x : A) → o ≡ Some x → L (go x)) → L (with_found o go)
     found-is-legal None go h = tt

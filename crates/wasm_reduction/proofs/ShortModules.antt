@@ -5,16 +5,15 @@ use Rattle.std.specs.List.{cons_option}
 use Rattle.wasm_ast.specs.Shape.{InstrHasShape, SeqHasShape, FuncHasShape, HasShape}
 use Rattle.wasm_ast.specs.declared.instructions.Instr.{Instr}
 use Rattle.wasm_ast.specs.declared.instructions.Instr.TheVariants.{BrTable, Call}
-use Rattle.wasm_ast.specs.declared.modules.ImportKind.{ImportKind}
-use Rattle.wasm_ast.specs.declared.modules.ImportKind.TheVariants.{Func as FuncImport}
 use Rattle.wasm_ast.specs.declared.modules.Import.{Import}
 use Rattle.wasm_ast.specs.declared.modules.Func.{Func}
 use Rattle.wasm_ast.specs.declared.modules.Module.{Module}
 use Rattle.wasm_ast.specs.declared.runs.Value.{Value as Argument}
 use Rattle.wasm_ast.specs.declared.runs.Outcome.{Outcome}
 use Rattle.wasm_rules.specs.Words.{numbers, taken}
+use Rattle.wasm_check.specs.Contexts.{func_import}
 use Rattle.wasm_reduction.specs.Configurations.{Value, Store, End}
-use Rattle.wasm_reduction.specs.Functions.{host_of, Code, Imported, Function, functions, imported_as}
+use Rattle.wasm_reduction.specs.Functions.{host_of, Code, Imported, Function, functions, imported_as, defined_as}
 use Rattle.wasm_reduction.specs.Instantiation.{start_call, invoked, instantiated}
 use Rattle.wasm_reduction.specs.Runs.{Trace, Going, Turned, On, Over, then_follow, follows, started_by, started, by_value, outcome_of, draws_from, run_of, Run, IsRun}
 use Rattle.wasm_reduction.proofs.Moves.{most_questions}
@@ -56,22 +55,22 @@ cons-short : (o : Option Function) (fs : List Function) → ((f : Function) → 
 cons-short None fs h k = k
 cons-short (Some f) fs h k = (h f refl, k)
 
-imported-short : (i : Import) (kind : ImportKind) (f : Function) → imported_as i kind ≡ Some f → BodyShort f
-imported-short i (FuncImport ty) f e code is = absurd (let same : Imported (host_of i) ≡ f.body = let g : record { ty = ty; body = Imported (host_of i) } ≡ f = cc in ap (λ f. f.body) g in let both : Imported (host_of i) ≡ Code code = same ∙ is in cc)
-imported-short i _ f e code is = absurd cc
+imported-short : (i : Import) (ty : Option ℕ) (f : Function) → option_map (imported_as i) ty ≡ Some f → BodyShort f
+imported-short i (Some ty) f e code is = absurd (let same : Imported (host_of i) ≡ f.body = let g : imported_as i ty ≡ f = cc in ap (λ f. f.body) g in let both : Imported (host_of i) ≡ Code code = same ∙ is in cc)
+imported-short i None f e code is = absurd cc
 
-imports-short : (is : List Import) → Each BodyShort (filter_map (λ i. imported_as i i.kind) is)
+imports-short : (is : List Import) → Each BodyShort (filter_map (λ i. option_map (imported_as i) (func_import i.kind)) is)
 imports-short [] = tt
-imports-short (i ∷ is) = cons-short (imported_as i i.kind) _ (imported-short i i.kind) (imports-short is)
+imports-short (i ∷ is) = cons-short (option_map (imported_as i) (func_import i.kind)) _ (imported-short i (func_import i.kind)) (imports-short is)
 
-own-short : (fs : List Func) → Each FuncHasShape fs → Each BodyShort (map (λ f. record { ty = f.ty; body = Code f }) fs)
+own-short : (fs : List Func) → Each FuncHasShape fs → Each BodyShort (map defined_as fs)
 own-short [] h = tt
 own-short (f ∷ fs) h = (λ code is. let same : f ≡ code = cc in subst (λ f. AllShort f.body.seqs) same (all-short f.body.seqs (each-of SeqHasShape f.body.seqs h.0.body.each)), own-short fs h.1)
 
 module-short : (m : Module) → HasShape m → ModuleShort m
 module-short m h x f code found is =
     each-get BodyShort (functions m) x f
-    (each-append BodyShort (filter_map (λ i. imported_as i i.kind) m.imports) (map (λ f. record { ty = f.ty; body = Code f }) m.funcs)
+    (each-append BodyShort (filter_map (λ i. option_map (imported_as i) (func_import i.kind)) m.imports) (map defined_as m.funcs)
     (imports-short m.imports) (own-short m.funcs (each-of FuncHasShape m.funcs h.funcs)))
     found code is
 

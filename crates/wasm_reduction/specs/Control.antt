@@ -1,5 +1,5 @@
 -- Control instructions and calls (Execution, Instructions: Control Instructions, Blocks, Function Calls).
-use Rattle.std.specs.Prelude.{ℕ, ◌+◌, Bool, true, false, List, [], ◌∷◌, ◌++◌, drop, length, reverse, slice_get, Option, Some, None, unwrap_or}
+use Rattle.std.specs.Prelude.{ℕ, ◌+◌, Bool, true, false, List, [], ◌∷◌, ◌++◌, drop, length, reverse, slice_get, Option, Some, None}
 use Rattle.wasm_ast.specs.declared.types.FuncType.{FuncType}
 use Rattle.wasm_ast.specs.declared.types.BlockType.{BlockType}
 use Rattle.wasm_ast.specs.declared.instructions.Instr.{Instr}
@@ -9,13 +9,12 @@ use Rattle.wasm_ast.specs.declared.modules.Func.{Func}
 use Rattle.wasm_ast.specs.declared.modules.Module.{Module}
 use Rattle.wasm_rules.specs.Words.{Kind}
 use Rattle.wasm_reduction.specs.Configurations.{Reference, FuncRef, ExternRef, Value, Label, Frame, Config, Returns, Traps, Fails, Assumes, Stuck, Next, Goes, Draws, Ends}
-use Rattle.wasm_reduction.specs.Functions.{Host, HostSymbol, HostAssume, HostAssert, Body, Code, Imported, Function, functions, type_of, same_function_type, block_type, first_locals}
+use Rattle.wasm_check.specs.Trees.{seq_of}
+use Rattle.wasm_image.specs.declared.hosts.Host.{Host}
+use Rattle.wasm_image.specs.declared.hosts.Host.TheVariants.{SymbolI32, SymbolI64, Assume, Assert}
+use Rattle.wasm_reduction.specs.Functions.{Body, Code, Imported, Function, functions, type_of, same_function_type, block_type, first_locals}
 use Rattle.wasm_reduction.specs.Combinators.{holding, with_found, with_word, with_last, testing, assuming}
 use Rattle.wasm_reduction.specs.Ranges.{indexing}
-
--- the instructions of a sequence, by its number
-abbrev pub seq_of : List (List Instr) → ℕ → List Instr
-seq_of seqs s = unwrap_or (slice_get seqs s) []
 
 -- ---- labels and frames end
 
@@ -113,10 +112,11 @@ frame_of K t f args = record {
 -- fails where the answer is 0.
 abbrev pub calling_host : {W : Type 0} → Config W → List (Value W) → List ℕ → Option Host → Next W
 calling_host c vs ns None = Ends Stuck
-calling_host c vs ns (Some (HostSymbol wide)) = Draws wide (holding c vs)
-calling_host c vs ns (Some HostAssume) =
+calling_host c vs ns (Some SymbolI32) = Draws false (holding c vs)
+calling_host c vs ns (Some SymbolI64) = Draws true (holding c vs)
+calling_host c vs ns (Some Assume) =
     with_word false vs (λ condition rest. assuming condition ns (Ends Assumes) (Goes (holding c rest)))
-calling_host c vs ns (Some HostAssert) =
+calling_host c vs ns (Some Assert) =
     with_word false vs (λ condition rest. testing condition ns (λ ns. Ends Fails) (λ ns. Goes (holding c rest)))
 
 -- a call of a function with code makes a frame

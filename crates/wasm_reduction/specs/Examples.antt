@@ -1,9 +1,7 @@
 -- Small modules, and what the definitions give of them. Where an instruction is shown on a memory of a few bytes, the memory
 -- is no whole page.
 use Rattle.std.specs.Prelude.{◌≡◌, ℕ, ◌-◌, ◌+◌, ◌^◌, ◌<◌, Bool, true, false, List, [], ◌∷◌, length, Option, Some, None, codes}
-use Rattle.wasm_ast.specs.declared.types.ValType.{ValType}
 use Rattle.wasm_ast.specs.declared.types.ValType.TheVariants.{I32 as I32Type, I64 as I64Type, FuncRef as FuncRefType}
-use Rattle.wasm_ast.specs.declared.types.FuncType.{FuncType}
 use Rattle.wasm_ast.specs.declared.types.Limits.{Limits}
 use Rattle.wasm_ast.specs.declared.types.BlockType.TheVariants.{Empty, One, Index}
 use Rattle.wasm_ast.specs.declared.instructions.Instr.{Instr}
@@ -22,6 +20,7 @@ use Rattle.wasm_ast.specs.declared.runs.Value.{Value}
 use Rattle.wasm_ast.specs.declared.runs.Value.TheVariants.{I32, I64, Func as FuncValue}
 use Rattle.wasm_ast.specs.declared.runs.Draw.{Draw}
 use Rattle.wasm_rules.specs.Words.{numbers, taken}
+use Rattle.wasm_check.specs.Operators.{arrow}
 use Rattle.wasm_reduction.specs.Configurations.{Reference, FuncRef, Store, Frame}
 use Rattle.wasm_reduction.specs.Steps.{step}
 use Rattle.wasm_reduction.specs.Runs.{Going, Over, Deep, Reply, Run, no_trace, follow, follow_by, follows, by_value, run_of, IsRun}
@@ -30,9 +29,6 @@ use Rattle.wasm_reduction.specs.Runs.{Going, Over, Deep, Reply, Run, no_trace, f
 
 abbrev pub no_module : Module
 no_module = record { types = []; imports = []; funcs = []; tables = []; memories = []; globals = []; exports = []; start = None; elems = []; segments = []; customs = [] }
-
-abbrev pub arrow : List ValType → List ValType → FuncType
-arrow params results = record { params = params; results = results }
 
 -- a function without locals of its own
 abbrev pub function_of : ℕ → List (List Instr) → Func

@@ -1,26 +1,24 @@
--- The functions of a module and their types (Execution, Runtime Structure: Function Instances), and the host functions.
+-- The functions of a module and their types (Execution, Runtime Structure: Function Instances).
 --
 -- A module that is run imports host functions alone. So its tables, its memory and its globals are its own.
-use Rattle.std.specs.Prelude.{ℕ, Bool, true, false, ◌&&◌, if◌then◌else◌, List, [], ◌∷◌, ◌++◌, map, filter_map, flat_map, replicate, slice_get, Option, Some, None, bytes_eq, codes}
+use Rattle.std.specs.Prelude.{ℕ, Bool, true, false, ◌&&◌, if◌then◌else◌, List, [], ◌∷◌, ◌++◌, map, filter_map, flat_map, replicate, slice_get, Option, Some, None, option_map, bytes_eq, codes}
 use Rattle.wasm_ast.specs.declared.types.ValType.{ValType}
 use Rattle.wasm_ast.specs.declared.types.ValType.TheVariants.{I32 as I32Type, I64 as I64Type, FuncRef as FuncRefType, ExternRef as ExternRefType}
 use Rattle.wasm_ast.specs.declared.types.FuncType.{FuncType}
 use Rattle.wasm_ast.specs.declared.types.BlockType.{BlockType}
 use Rattle.wasm_ast.specs.declared.types.BlockType.TheVariants.{Empty, One, Index}
-use Rattle.wasm_ast.specs.declared.modules.ImportKind.{ImportKind}
-use Rattle.wasm_ast.specs.declared.modules.ImportKind.TheVariants.{Func as FuncImport}
 use Rattle.wasm_ast.specs.declared.modules.Import.{Import}
 use Rattle.wasm_ast.specs.declared.modules.Group.{Group}
 use Rattle.wasm_ast.specs.declared.modules.Func.{Func}
 use Rattle.wasm_ast.specs.declared.modules.Module.{Module}
 use Rattle.wasm_rules.specs.Words.{Kind}
+use Rattle.wasm_check.specs.Checker.{same_type}
+use Rattle.wasm_check.specs.Contexts.{func_import}
+use Rattle.wasm_check.specs.Operators.{arrow}
+use Rattle.wasm_image.specs.declared.hosts.Host.{Host}
+use Rattle.wasm_image.specs.declared.hosts.Host.TheVariants.{SymbolI32, SymbolI64, Assume, Assert}
+use Rattle.wasm_image.specs.Hosts.{host_name}
 use Rattle.wasm_reduction.specs.Configurations.{FuncRef, ExternRef, Value, I32, I64, Ref}
-
--- `i64_symbol` where wide, else `i32_symbol`; `assume`; `assert`
-pub data Host : Type 0 where
-  HostSymbol : Bool → Host
-  HostAssume : Host
-  HostAssert : Host
 
 -- what a function runs: its code, or the host function that is imported, where it is one
 pub data Body : Type 0 where
@@ -32,37 +30,34 @@ pub record Function : Type 0 where
   pub ty : ℕ
   pub body : Body
 
+-- the host function of a name
 abbrev pub host_named : List ℕ → Option Host
 host_named name =
-    if bytes_eq name (codes "i32_symbol") then Some (HostSymbol false)
-    else if bytes_eq name (codes "i64_symbol") then Some (HostSymbol true)
-    else if bytes_eq name (codes "assume") then Some HostAssume
-    else if bytes_eq name (codes "assert") then Some HostAssert
+    if bytes_eq name (host_name SymbolI32) then Some SymbolI32
+    else if bytes_eq name (host_name SymbolI64) then Some SymbolI64
+    else if bytes_eq name (host_name Assume) then Some Assume
+    else if bytes_eq name (host_name Assert) then Some Assert
     else None
 
 -- the host functions are those of the module `symbolic`
 abbrev pub host_of : Import → Option Host
 host_of i = if bytes_eq i.module (codes "symbolic") then host_named i.name else None
 
-abbrev pub imported_as : Import → ImportKind → Option Function
-imported_as i (FuncImport ty) = Some (record { ty = ty; body = Imported (host_of i) })
-imported_as i _ = None
+-- an imported function of this type, and one with code
+abbrev pub imported_as : Import → ℕ → Function
+imported_as i ty = record { ty = ty; body = Imported (host_of i) }
+
+abbrev pub defined_as : Func → Function
+defined_as f = record { ty = f.ty; body = Code f }
 
 -- the functions by their indices, the imported ones first
 abbrev pub functions : Module → List Function
-functions m = filter_map (λ i. imported_as i i.kind) m.imports ++ map (λ f. record { ty = f.ty; body = Code f }) m.funcs
+functions m = filter_map (λ i. option_map (imported_as i) (func_import i.kind)) m.imports ++ map defined_as m.funcs
 
 abbrev pub type_of : Module → Function → Option FuncType
 type_of m f = slice_get m.types f.ty
 
 -- ---- types
-
-abbrev pub same_type : ValType → ValType → Bool
-same_type I32Type I32Type = true
-same_type I64Type I64Type = true
-same_type FuncRefType FuncRefType = true
-same_type ExternRefType ExternRefType = true
-same_type _ _ = false
 
 abbrev pub same_types : List ValType → List ValType → Bool
 same_types [] [] = true
@@ -74,8 +69,8 @@ same_function_type s t = same_types s.params t.params && same_types s.results t.
 
 -- what a block takes and gives
 abbrev pub block_type : Module → BlockType → Option FuncType
-block_type m Empty = Some (record { params = []; results = [] })
-block_type m (One t) = Some (record { params = []; results = t ∷ [] })
+block_type m Empty = Some (arrow [] [])
+block_type m (One t) = Some (arrow [] (t ∷ []))
 block_type m (Index ty) = slice_get m.types ty
 
 -- ---- values

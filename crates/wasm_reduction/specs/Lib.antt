@@ -12,6 +12,8 @@ pub mod Steps
 pub mod Images
 pub mod Instantiation
 pub mod Runs
+pub mod RunImages
 pub mod Maps
+pub mod Widths
 pub mod Laws
 pub mod Examples

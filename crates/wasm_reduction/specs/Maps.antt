@@ -2,7 +2,7 @@
 use Rattle.std.specs.Prelude.{◌≡◌, ℕ, ◌^◌, ◌<◌, Bool, IsTrue, List, [], ◌∷◌, All, length, map}
 use Rattle.std.specs.List.{AllByRecursion}
 use Rattle.wasm_ast.specs.declared.instructions.Instr.{Instr}
-use Rattle.wasm_ast.specs.declared.instructions.Instr.TheVariants.{BrTable, Load, Store as StoreInstr}
+use Rattle.wasm_ast.specs.declared.instructions.Instr.TheVariants.{BrTable, Load, Store as StoreInstr, Const32, Const64}
 use Rattle.int_ops.specs.Operators.{is_unary, is_binary, operand_bits}
 use Rattle.wasm_rules.specs.Words.{Kind, HasSome, CanJoin, bits_where}
 use Rattle.wasm_reduction.specs.Configurations.{Value, I32, I64, Ref, Config}
@@ -22,6 +22,8 @@ abbrev pub InRange : Instr → Type 0
 InRange (BrTable labels last) = length labels < 2 ^ 32
 InRange (Load op align offset) = offset < 2 ^ 32
 InRange (StoreInstr op align offset) = offset < 2 ^ 32
+InRange (Const32 n) = n < 2 ^ 32
+InRange (Const64 n) = n < 2 ^ 64
 InRange _ = Unit {0}
 
 abbrev pub NextInRange : List Instr → Type 0

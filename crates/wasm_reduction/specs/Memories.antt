@@ -4,16 +4,14 @@ use Rattle.wasm_ast.specs.declared.runs.Cause.TheVariants.{Memory}
 use Rattle.wasm_ast.specs.declared.modules.Module.{Module}
 use Rattle.wasm_rules.specs.Words.{Kind}
 use Rattle.wasm_rules.specs.Accesses.{load_of, store_of, accessed, lowest_bytes}
+use Rattle.wasm_image.specs.Sizes.{most_pages}
 use Rattle.wasm_reduction.specs.Configurations.{Value, I32, Config, Next, Goes}
 use Rattle.wasm_reduction.specs.Combinators.{holding, with_memory, with_datas, valued, with_found, with_word, written, part}
 use Rattle.wasm_reduction.specs.Ranges.{addressing, filling, copying, with_copy, growth_limit, growing}
 
--- how many bytes a page has, and the most pages of a memory
+-- how many bytes a page has
 abbrev pub page_bytes : ℕ
 page_bytes = 65536
-
-abbrev pub most_pages : ℕ
-most_pages = 1024
 
 -- A load. The effective address is the operand plus the offset, and doesn't wrap.
 abbrev pub load : {W : Type 0} → Kind W → Config W → List (Value W) → List ℕ → ℕ → ℕ → Next W

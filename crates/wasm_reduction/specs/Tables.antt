@@ -6,6 +6,7 @@ use Rattle.wasm_ast.specs.declared.runs.Cause.TheVariants.{Table}
 use Rattle.wasm_ast.specs.declared.modules.Module.{Module}
 use Rattle.int_ops.specs.Integers.{truth}
 use Rattle.wasm_rules.specs.Words.{Kind}
+use Rattle.wasm_image.specs.Sizes.{most_elements}
 use Rattle.wasm_reduction.specs.Configurations.{Reference, FuncRef, ExternRef, Value, I32, Ref, Config, Next, Goes}
 use Rattle.wasm_reduction.specs.Combinators.{holding, with_tables, with_elems, with_found, with_word, with_reference, written, part}
 use Rattle.wasm_reduction.specs.Ranges.{indexing, filling, copying, with_copy, growth_limit, growing}
@@ -36,10 +37,6 @@ abbrev pub ref_func : {W : Type 0} → Config W → List (Value W) → ℕ → N
 ref_func c vs x = Goes (holding c (Ref (FuncRef (Some x)) ∷ vs))
 
 -- ---- tables
-
--- the most elements of a table
-abbrev pub most_elements : ℕ
-most_elements = 65536
 
 -- the configuration with other elements in the table x
 abbrev pub with_table : {W : Type 0} → Config W → ℕ → List Reference → Config W

@@ -1,17 +1,40 @@
-// Laws of bounded runs.
-ghost use Rattle.std.specs.Prelude.{◌≡◌, ℕ, ◌*◌, ◌^◌, ◌≤◌, List, length};
+// Laws of functions and of bounded runs.
+ghost use Rattle.std.specs.Prelude.{◌≡◌, ℕ, ◌+◌, ◌*◌, ◌^◌, ◌≤◌, ◌++◌, All, Bool, List, length, Ok, Some, option_and_then, slice_get};
 ghost use Rattle.wasm_ast.specs.Shape.{HasShape};
+ghost use Rattle.wasm_ast.specs.declared.types.BlockType.{BlockType};
+ghost use Rattle.wasm_ast.specs.declared.types.FuncType.{FuncType};
+ghost use Rattle.wasm_ast.specs.declared.modules.Func.{Func};
 ghost use Rattle.wasm_ast.specs.declared.modules.Module.{Module};
 ghost use Rattle.wasm_ast.specs.declared.runs.Value.{Value};
-ghost use Rattle.wasm_rules.specs.Words.{Gives, numbers};
-ghost use Rattle.wasm_reduction.specs.Configurations.{Config};
-ghost use Rattle.wasm_reduction.specs.Steps.{step};
+ghost use Rattle.wasm_rules.specs.Words.{Gives, bits_where, numbers, taken};
+ghost use Rattle.wasm_check.specs.Contexts.{block_type as context_block_type, context_of};
+ghost use Rattle.wasm_check.specs.Modules.{IsValid};
+ghost use Rattle.wasm_image.specs.declared.hosts.Host.{Host};
+ghost use Rattle.wasm_image.specs.Functions.{function_type, imported_functions};
+ghost use Rattle.wasm_image.specs.Hosts.{IsHostFunction};
+ghost use Rattle.wasm_image.specs.Ready.{IsReady};
+ghost use Rattle.wasm_reduction.specs.Configurations.{Config, Question};
+ghost use Rattle.wasm_reduction.specs.Functions.{functions, type_of, block_type};
+ghost use Rattle.wasm_reduction.specs.Instantiation.{first_config};
+ghost use Rattle.wasm_reduction.specs.Steps.{step, answered, with_symbol};
 ghost use Rattle.wasm_reduction.specs.Images.{config_image, next_image};
 ghost use Rattle.wasm_reduction.specs.Maps.{IsWide, KeepsOperations};
-ghost use Rattle.wasm_reduction.specs.Runs.{Run, IsRun};
-ghost use Rattle.wasm_reduction.specs.Laws.{ComesToAnEnd};
+ghost use Rattle.wasm_reduction.specs.Widths.{HasNumbers, ArgumentFits, HasWidths, NextHasWidths};
+ghost use Rattle.wasm_reduction.specs.Runs.{Trace, Going, Stands, Turned, Over, by_list, follows, runs, Run, runs_at, IsRun};
+ghost use Rattle.wasm_reduction.specs.RunImages.{going_image, turned_image, trace_of, IsAnswered, BeginsWith, AsksNext, KeepsSymbols};
+ghost use Rattle.wasm_reduction.specs.Laws.{RunsHost, RunsCode, ComesToAnEnd};
 
 use wasm_rules::Algebra;
+
+/// The functions of a module by their indices are those that images and validation count: the imported ones, of which each
+/// that is a host function runs it, and then those with code. Each has the type that an image gives it. What a block takes
+/// and gives is what its validation in the body of any function says.
+pub fn functions_are_those_of_images()
+    ensures hosts { (m : Module) (f : ℕ) (h : Host) → IsHostFunction m f h → RunsHost m f h }
+    ensures code { (m : Module) (k : ℕ) (f : Func) → slice_get m.funcs k ≡ Some f → RunsCode m (length (imported_functions m) + k) f }
+    ensures types { (m : Module) (f : ℕ) → option_and_then (type_of m) (slice_get (functions m) f) ≡ function_type m f }
+    ensures blocks { (m : Module) (f : Func) (type : FuncType) (ty : BlockType) → context_block_type (context_of m f type) ty ≡ block_type m ty }
+{}
 
 /// Each bounded run comes to an end, whatever the module, the arguments, the input and the bound on steps, and what it gives
 /// is determined.
@@ -29,4 +52,39 @@ pub fn bounded_runs_ask_little()
 /// at an input: a step of a configuration whose words have their widths, under the map, is the step of its image.
 pub fn steps_keep_values<A: Algebra>()
     ensures { Gives A.kind A.Has → (h : A.Means → ℕ) → KeepsOperations A.Has A.kind numbers h → (m : Module) (c : Config A.Means) → IsWide A.Has c → step numbers m (config_image h c) ≡ next_image h (step A.kind m c) }
+{}
+
+/// Each step keeps the widths of all words: of a configuration that has them, with sizes within bounds, each step asks about a
+/// word of 32 bits, ends with words of their widths, or leads to such a configuration; so do an answer and a symbol of its
+/// width. Such a configuration's words have the widths that a step computes with. That of a valid and ready module at the
+/// start of a run is one. No step needs a valid module for this.
+pub fn steps_keep_widths<A: Algebra>()
+    ensures steps { Gives A.kind A.Has → (m : Module) (c : Config A.Means) → HasNumbers m → HasWidths A.Has c → NextHasWidths A.Has (step A.kind m c) }
+    ensures answers { (c : Config A.Means) (n : ℕ) → HasWidths A.Has c → HasWidths A.Has (answered c n) }
+    ensures symbols { (c : Config A.Means) (wide : Bool) (w : A.Means) → HasWidths A.Has c → A.Has (bits_where wide) w → HasWidths A.Has (with_symbol c wide w) }
+    ensures wide { (c : Config A.Means) → HasWidths A.Has c → IsWide A.Has c }
+    ensures first { Gives A.kind A.Has → (m : Module) (entry : ℕ) (args : List Value) (c : Config A.Means) → HasNumbers m → IsValid m → IsReady m → All ArgumentFits args → first_config A.kind m entry args ≡ Ok c → HasWidths A.Has c }
+{}
+
+/// A run commutes with each map from the words of an algebra to numbers that keeps the operations, for so many turns and any
+/// list of answers: under the map, a run over the algebra's words is the run over numbers with the same answers, whose symbols
+/// are the numbers that the map makes of the words of symbols. Where one stands at a question, so does the other.
+pub fn runs_keep_values<A: Algebra>()
+    ensures turns { Gives A.kind A.Has → (h : A.Means → ℕ) → KeepsOperations A.Has A.kind numbers h → (draw : ℕ → Bool → A.Means) (drawn : ℕ → Bool → ℕ) → KeepsSymbols A.Has h draw drawn → (answers : List ℕ) (m : Module) (steps n : ℕ) (g : Going A.Means) → HasNumbers m → HasWidths A.Has g.config → follows numbers drawn (by_list answers) m steps n (going_image h g) ≡ turned_image h (follows A.kind draw (by_list answers) m steps n g) }
+    ensures runs { Gives A.kind A.Has → (h : A.Means → ℕ) → KeepsOperations A.Has A.kind numbers h → (draw : ℕ → Bool → A.Means) (drawn : ℕ → Bool → ℕ) → KeepsSymbols A.Has h draw drawn → (answers : List ℕ) (m : Module) (entry : ℕ) (args : List Value) (steps n : ℕ) → HasNumbers m → IsValid m → IsReady m → All ArgumentFits args → runs numbers drawn (by_list answers) m entry args steps n ≡ turned_image h (runs A.kind draw (by_list answers) m entry args steps n) }
+{}
+
+/// While a run that is answered by a list doesn't stand at a question, more answers after those of the list change nothing.
+pub fn longer_lists_agree<A: Algebra>()
+    ensures { (draw : ℕ → Bool → A.Means) (m : Module) (entry : ℕ) (args : List Value) (steps n : ℕ) (answers more : List ℕ) (x : Turned A.Means) → IsAnswered x → runs A.kind draw (by_list answers) m entry args steps n ≡ x → runs A.kind draw (by_list (answers ++ more)) m entry args steps n ≡ x }
+{}
+
+/// A bounded run is the run that is answered by the list of its answers: after so many turns it is where the run is that is
+/// answered by any list that begins with its answers by then. Where a run at the same input is answered by a list with which
+/// the bounded run's answers begin: while that run goes on, and where it ends, the bounded run does the same; where it stands
+/// at a question, the bounded run asks that question after the same answers, and its next answer is that of the word's number.
+pub fn bounded_runs_are_listed()
+    ensures so_far { (m : Module) (entry : ℕ) (args : List Value) (input : List ℕ) (steps n k : ℕ) (answers : List ℕ) → n ≤ k → BeginsWith answers (trace_of (runs_at m entry args input steps k)).answers → runs numbers (taken input) (by_list answers) m entry args steps n ≡ runs_at m entry args input steps n }
+    ensures there { (m : Module) (entry : ℕ) (args : List Value) (input : List ℕ) (steps n : ℕ) (answers : List ℕ) (run : Run) (x : Turned ℕ) → IsAnswered x → IsRun m entry args input steps run → BeginsWith run.answers answers → runs numbers (taken input) (by_list answers) m entry args steps n ≡ x → runs_at m entry args input steps n ≡ x }
+    ensures asks { (m : Module) (entry : ℕ) (args : List Value) (input : List ℕ) (steps n : ℕ) (answers : List ℕ) (run : Run) (q : Question) (w : ℕ) (trace : Trace) → IsRun m entry args input steps run → BeginsWith run.answers answers → runs numbers (taken input) (by_list answers) m entry args steps n ≡ Over (Stands q w) trace → AsksNext m entry args input steps answers run q w }
 {}
