@@ -1,0 +1,11 @@
+pub mod Holding
+pub mod Tables
+pub mod Modules
+pub mod Parts
+pub mod Inversions
+pub mod Control
+pub mod Steps
+pub mod Configs
+pub mod Starts
+pub mod Runs
+pub mod Examples
