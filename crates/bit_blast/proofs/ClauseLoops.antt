@@ -1,0 +1,73 @@
+-- Clauses that are written a literal at a time, and the clauses of gates.
+use Rattle.std.proofs.Common.{◌≡◌, ◌<◌, ◌≤◌, ◌+◌, ℕ, List, [], ◌∷◌, ◌++◌, length, take, get_or, reverse, refl, sym, ap, ◌∙◌, arith}
+use Rattle.std.specs.Prelude.{Bool, true, false, not, ◌==◌, ◌||◌, if◌then◌else◌}
+use Rattle.std.proofs.lemmas.Bool.{true≢false}
+use Rattle.std.proofs.lemmas.List.{take_more, append-nil, reverse-append, length-reverse, length-take-le}
+use Rattle.bit_blast.specs.declared.gates.Gate.{Gate}
+use Rattle.bit_blast.specs.Gates.{clauses_from, gate_clauses}
+use Rattle.std.proofs.lemmas.List.Elements.{filter-append}
+use Rattle.refute_check.specs.Resolution.{has, without, each_once}
+use Rattle.refute_check.proofs.Membership.{has-each_once, swapped}
+
+-- one literal more, which the clause doesn't hold
+pub once_new : (xs : List ℕ) (x : ℕ) → has xs x ≡ false → each_once (xs ++ x ∷ []) ≡ each_once xs ++ x ∷ []
+once_new [] x h = refl
+once_new (y ∷ xs) x h = go (λ f. once_new xs x f) (y == x) (has xs x) refl refl
+  where
+    go : (has xs x ≡ false → each_once (xs ++ x ∷ []) ≡ each_once xs ++ x ∷ []) → (b d : Bool) → (y == x) ≡ b → has xs x ≡ d → each_once ((y ∷ xs) ++ x ∷ []) ≡ each_once (y ∷ xs) ++ x ∷ []
+    go rec true d e f = absurd (true≢false (sym (ap (λ b. b || has xs x) e) ∙ h))
+    go rec false true e f = absurd (true≢false (sym (ap (λ b. b || has xs x) e ∙ f) ∙ h))
+    go rec false false e f =
+        ap (λ r. y ∷ without y r) (rec f) ∙ ap (λ r. y ∷ r) (filter-append (λ o. not (o == y)) (each_once xs) (x ∷ []) ∙ ap (λ b. without y (each_once xs) ++ (if not b then x ∷ [] else [])) (swapped x y ∙ e))
+
+-- and one that it holds already
+pub once_there : (xs : List ℕ) (x : ℕ) → has xs x ≡ true → each_once (xs ++ x ∷ []) ≡ each_once xs
+once_there [] x h = absurd (true≢false (sym h))
+once_there (y ∷ xs) x h = go (λ f. once_there xs x f) (y == x) (has xs x) refl refl
+  where
+    new : (y == x) ≡ true → has xs x ≡ false → without y (each_once xs ++ x ∷ []) ≡ without y (each_once xs)
+    new e f = filter-append (λ o. not (o == y)) (each_once xs) (x ∷ []) ∙ ap (λ b. without y (each_once xs) ++ (if not b then x ∷ [] else [])) (swapped x y ∙ e) ∙ append-nil (without y (each_once xs))
+
+    go : (has xs x ≡ true → each_once (xs ++ x ∷ []) ≡ each_once xs) → (b d : Bool) → (y == x) ≡ b → has xs x ≡ d → each_once ((y ∷ xs) ++ x ∷ []) ≡ each_once (y ∷ xs)
+    go rec b true e f = ap (λ r. y ∷ without y r) (rec f)
+    go rec true false e f = ap (λ r. y ∷ without y r) (once_new xs x f) ∙ ap (λ r. y ∷ r) (new e f)
+    go rec false false e f = absurd (true≢false (sym h ∙ ap (λ b. b || has xs x) e ∙ f))
+
+-- a loop over the literals
+pub put_new : (clause xs : List ℕ) (i : ℕ) → i < length xs → clause ≡ each_once (take i xs) → has clause (get_or xs i 0) ≡ false
+    → clause ++ get_or xs i 0 ∷ [] ≡ each_once (take (i + 1) xs)
+put_new clause xs i h e f =
+    let x = get_or xs i 0 in
+    let g : has (take i xs) x ≡ false = sym (has-each_once (take i xs) x) ∙ ap (λ c. has c x) (sym e) ∙ f in
+    ap (λ r. r ++ x ∷ []) e ∙ sym (once_new (take i xs) x g) ∙ ap (λ r. each_once r) (sym (take_more xs i 0 h))
+
+pub put_there : (clause xs : List ℕ) (i : ℕ) → i < length xs → clause ≡ each_once (take i xs) → has clause (get_or xs i 0) ≡ true
+    → clause ≡ each_once (take (i + 1) xs)
+put_there clause xs i h e f =
+    let x = get_or xs i 0 in
+    let g : has (take i xs) x ≡ true = sym (has-each_once (take i xs) x) ∙ ap (λ c. has c x) (sym e) ∙ f in
+    e ∙ sym (once_there (take i xs) x g) ∙ ap (λ r. each_once r) (sym (take_more xs i 0 h))
+
+pub put_once-next : (old new xs : List ℕ) (i : ℕ) → i < length xs → old ≡ each_once (take i xs)
+    → new ≡ (if has old (get_or xs i 0) then old else old ++ get_or xs i 0 ∷ []) → new ≡ each_once (take (i + 1) xs)
+put_once-next old new xs i h e n = go (has old (get_or xs i 0)) refl
+  where
+    go : (b : Bool) → has old (get_or xs i 0) ≡ b → new ≡ each_once (take (i + 1) xs)
+    go true f = n ∙ ap (λ b. if b then old else old ++ get_or xs i 0 ∷ []) f ∙ put_there old xs i h e f
+    go false f = n ∙ ap (λ b. if b then old else old ++ get_or xs i 0 ∷ []) f ∙ put_new old xs i h e f
+
+-- ---- the clauses of gates
+
+-- the clauses of one gate more
+pub clauses-next : (first : ℕ) (gates : List Gate) (i : ℕ) (gate : Gate) → i < length gates → gate ≡ get_or gates i gate
+    → clauses_from first (reverse (take (i + 1) gates)) ≡ clauses_from first (reverse (take i gates)) ++ gate_clauses (first + i) gate
+clauses-next first gates i gate h is =
+    let turned : reverse (take (i + 1) gates) ≡ get_or gates i gate ∷ reverse (take i gates) =
+    ap (λ gs. reverse gs) (take_more gates i gate h) ∙ reverse-append (take i gates) (get_or gates i gate ∷ []) in
+    let long : length (reverse (take i gates)) ≡ i = length-reverse (take i gates) ∙ length-take-le i gates (le_of i (length gates) h) in
+    ap (λ gs. clauses_from first gs) turned
+    ∙ ap (λ n. clauses_from first (reverse (take i gates)) ++ gate_clauses (first + n) (get_or gates i gate)) long
+    ∙ ap (λ g. clauses_from first (reverse (take i gates)) ++ gate_clauses (first + i) g) (sym is)
+  where
+    le_of : (m n : ℕ) → m < n → m ≤ n
+    le_of m n h = omega arith
