@@ -1,0 +1,14 @@
+pub mod States
+pub mod Moves
+pub mod Values
+pub mod Configurations
+pub mod Acts
+pub mod Divisions
+pub mod Selects
+pub mod Reached
+pub mod Says
+pub mod Choices
+pub mod Stores
+pub mod Comings
+pub mod Starts
+pub mod Steps
