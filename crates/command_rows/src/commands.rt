@@ -64,13 +64,13 @@ fn names_another_export(rt: HostRuntime) -> Result<(), Fail> {
     )
 }
 
-// Texts, and a module that isn't straight: its function subtracts.
+// Texts, and a module with an import, which is a host function.
 #[test]
 fn puts_off_other_sources(rt: HostRuntime) -> Result<(), Fail> {
     let sources: [&[u8]; 3] = [
         b"",
         b"(module)",
-        b"\x00asm\x01\x00\x00\x00\x01\x05\x01\x60\x00\x01\x7F\x03\x02\x01\x00\x07\x05\x01\x01f\x00\x00\x0A\x09\x01\x07\x00\x41\x02\x41\x03\x6B\x0B",
+        b"\x00asm\x01\x00\x00\x00\x01\x05\x01\x60\x00\x01\x7F\x02\x17\x01\x08symbolic\x0Ai32_symbol\x00\x00\x07\x05\x01\x01f\x00\x00",
     ];
     for bytes in sources {
         expect(

@@ -1,22 +1,27 @@
 -- Laws of what is answered.
-use Rattle.std.proofs.Common.{◌≡◌, ℕ, ◌≤◌, ◌⊎◌, List, [], ◌∷◌, length, Option, Some, None, Bool, true, false, inl, inr, refl, if◌then◌else◌, ◌∙◌, subst, Contains, zero, suc, arith, ap}
+use Rattle.std.proofs.Common.{◌≡◌, ℕ, ◌≤◌, ◌<◌, ◌⊎◌, List, [], ◌∷◌, length, get_or, codes, Option, Some, None, Bool, true, false, inl, inr, refl, if◌then◌else◌, ◌∙◌, subst, lit≤, arith, All}
+use Rattle.std.proofs.lemmas.List.Elements.{All-from_recursion}
 use Rattle.std.specs.Prelude.{IfSome}
-use Rattle.std.specs.List.{list_any}
-use Rattle.owi_cmd.specs.Report.{is_found}
-use Rattle.wasm_ast.specs.declared.instructions.Instr.{Instr}
-use Rattle.wasm_ast.specs.declared.modules.Export.{Export}
-use Rattle.wasm_ast.specs.declared.modules.Space.TheVariants.{Func}
+use Rattle.std.specs.List.{list_any, AllZip, AllByRecursion}
 use Rattle.wasm_ast.specs.declared.modules.Module.{Module}
-use Rattle.wasm_image.specs.Entries.{IsExported}
-use Rattle.wasm_run.specs.Forms.{HasStraightForm}
+use Rattle.wasm_ast.specs.declared.runs.Outcome.{Outcome}
+use Rattle.wasm_ast.specs.declared.runs.Outcome.TheVariants.{Returns, Traps, Fails, Assumes, Bound, Deep}
+use Rattle.wasm_ast.specs.declared.runs.Value.{Value}
+use Rattle.wasm_ast.specs.declared.runs.Value.TheVariants.{I32, I64, Func, Extern}
+use Rattle.wasm_image.specs.Entries.{IsEntry}
+use Rattle.wasm_image.specs.Ready.{IsReady}
+use Rattle.wasm_run.specs.Bounded.{IsOfModule, CanRun}
+use Rattle.owi_cmd.specs.Report.{is_found}
 use Rattle.owi_cmd.specs.Rows.{status_of, only_row}
-use Rattle.owi_cmd.specs.Sources.{most_bytes, Explores, AnswersShort, AnswersSource, IsOfSource}
+use Rattle.owi_cmd.specs.Runs.{status_of_run}
+use Rattle.owi_cmd.specs.Sources.{most_bytes, Explores, Runs, AnswersShort, AnswersSource, IsOfSource}
 use Rattle.owi_cmd.specs.Answer.{Answers}
+use Rattle.owi_cmd.specs.Words.{IsArgument, IsOption, SpellsExplore, SpellsRun, Spells, IsSpelled}
 use Rattle.owi_cmd.specs.declared.report.Bounds.{Bounds}
 use Rattle.owi_cmd.specs.declared.report.Row.{Row}
-use Rattle.owi_cmd.specs.Words.{Spells}
 use Rattle.owi_cmd.specs.declared.words.Command.{Command}
-use Rattle.owi_cmd.specs.declared.words.Command.TheVariants.{Explore}
+use Rattle.owi_cmd.specs.declared.words.Command.TheVariants.{Explore, Run}
+use Rattle.owi_cmd.specs.declared.words.RunOptions.{RunOptions}
 use Rattle.owi_cmd.specs.declared.status.Status.{Status}
 use Rattle.owi_cmd.specs.declared.status.Status.TheVariants.{Done, Found, Malformed, Outside, Limit, Entry, WriteFault, NotYet, Invalid, Unlinked}
 
@@ -33,26 +38,81 @@ none_else : (status : Status) (rows : List Row) → status ≡ status_of rows �
 none_else status rows is not_found not_done = elim (counted rows) [ inl found ↦ not_found (is ∙ found) | inr done ↦ not_done (is ∙ done) ]
 
 -- an exploration is an answer
-pub explored : (name : List ℕ) (bounds : Bounds) (source : List ℕ) (status : Status) (bytes : List ℕ) → Explores name bounds source status bytes → AnswersShort (Explore name bounds) source status bytes
-explored name bounds source Limit bytes e = absurd (none_else Limit (only_row e.outcome ∷ []) e.counted (λ i. cc) (λ i. cc))
-explored name bounds source Malformed bytes e = absurd (none_else Malformed (only_row e.outcome ∷ []) e.counted (λ i. cc) (λ i. cc))
-explored name bounds source Outside bytes e = absurd (none_else Outside (only_row e.outcome ∷ []) e.counted (λ i. cc) (λ i. cc))
-explored name bounds source Invalid bytes e = absurd (none_else Invalid (only_row e.outcome ∷ []) e.counted (λ i. cc) (λ i. cc))
-explored name bounds source Unlinked bytes e = absurd (none_else Unlinked (only_row e.outcome ∷ []) e.counted (λ i. cc) (λ i. cc))
-explored name bounds source NotYet bytes e = absurd (none_else NotYet (only_row e.outcome ∷ []) e.counted (λ i. cc) (λ i. cc))
-explored name bounds source Entry bytes e = absurd (none_else Entry (only_row e.outcome ∷ []) e.counted (λ i. cc) (λ i. cc))
-explored name bounds source status bytes e = e
+pub explored : (name : List ℕ) (args : List Value) (bounds : Bounds) (source : List ℕ) (status : Status) (bytes : List ℕ) → Explores name args bounds source status bytes → AnswersShort (Explore name args bounds) source status bytes
+explored name args bounds source Limit bytes e = absurd (none_else Limit (only_row e.ran.outcome ∷ []) e.counted (λ i. cc) (λ i. cc))
+explored name args bounds source Malformed bytes e = absurd (none_else Malformed (only_row e.ran.outcome ∷ []) e.counted (λ i. cc) (λ i. cc))
+explored name args bounds source Outside bytes e = absurd (none_else Outside (only_row e.ran.outcome ∷ []) e.counted (λ i. cc) (λ i. cc))
+explored name args bounds source Invalid bytes e = absurd (none_else Invalid (only_row e.ran.outcome ∷ []) e.counted (λ i. cc) (λ i. cc))
+explored name args bounds source Unlinked bytes e = absurd (none_else Unlinked (only_row e.ran.outcome ∷ []) e.counted (λ i. cc) (λ i. cc))
+explored name args bounds source NotYet bytes e = absurd (none_else NotYet (only_row e.ran.outcome ∷ []) e.counted (λ i. cc) (λ i. cc))
+explored name args bounds source Entry bytes e = absurd (none_else Entry (only_row e.ran.outcome ∷ []) e.counted (λ i. cc) (λ i. cc))
+explored name args bounds source status bytes e = e
 
-alone : (a x : Export) → Contains (a ∷ []) x → a ≡ x
-alone a x (zero, lt, same) = same
-alone a x (suc i, lt, same) = absurd (omega (arith, lt))
+-- a run comes with Found or Done
+of_run : (outcome : Outcome) → (status_of_run outcome ≡ Found) ⊎ (status_of_run outcome ≡ Done)
+of_run (Returns values) = inr refl
+of_run (Traps cause) = inl refl
+of_run Fails = inl refl
+of_run Assumes = inr refl
+of_run Bound = inr refl
+of_run Deep = inr refl
 
--- a straight module exports its function by one name
-pub straight_by_name : (m : Module) (name exported : List ℕ) (body : List Instr) → HasStraightForm m exported body → (f : ℕ) → IsExported m name f → HasStraightForm m name body
-straight_by_name m name exported body straight f has =
-    let one : m.exports ≡ record { name = straight.spelled.name; space = Func; index = 0 } ∷ [] = ap (λ k. k.exports) straight.spelled.is in
-    let same : straight.spelled.name ≡ name = ap (λ e. e.name) (alone _ _ (rw one at has)) in
-    record { text = straight.text; spelled = straight.spelled; named = same; runs = straight.runs }
+no_other : (status : Status) (outcome : Outcome) → status ≡ status_of_run outcome → (status ≡ Found → ⊥) → (status ≡ Done → ⊥) → ⊥
+no_other status outcome is not_found not_done = elim (of_run outcome) [ inl found ↦ not_found (is ∙ found) | inr done ↦ not_done (is ∙ done) ]
+
+-- a run is an answer
+pub ran : (name : List ℕ) (args : List Value) (options : RunOptions) (source : List ℕ) (status : Status) (bytes : List ℕ) → Runs name args options source status bytes → AnswersShort (Run name args options) source status bytes
+ran name args options source Limit bytes e = absurd (no_other Limit e.ran.outcome e.counted (λ i. cc) (λ i. cc))
+ran name args options source Malformed bytes e = absurd (no_other Malformed e.ran.outcome e.counted (λ i. cc) (λ i. cc))
+ran name args options source Outside bytes e = absurd (no_other Outside e.ran.outcome e.counted (λ i. cc) (λ i. cc))
+ran name args options source Invalid bytes e = absurd (no_other Invalid e.ran.outcome e.counted (λ i. cc) (λ i. cc))
+ran name args options source Unlinked bytes e = absurd (no_other Unlinked e.ran.outcome e.counted (λ i. cc) (λ i. cc))
+ran name args options source NotYet bytes e = absurd (no_other NotYet e.ran.outcome e.counted (λ i. cc) (λ i. cc))
+ran name args options source Entry bytes e = absurd (no_other Entry e.ran.outcome e.counted (λ i. cc) (λ i. cc))
+ran name args options source status bytes e = e
+
+-- a run answers a source
+pub of_ran : (status : Status) (outcome : Outcome) → status ≡ status_of_run outcome → IsOfSource status
+of_ran status outcome is = elim (of_run outcome) [ inl found ↦ rw (is ∙ found) tt | inr done ↦ rw (is ∙ done) tt ]
+
+-- ---- what the words of a command give to the run
+
+-- an argument that a word spells refers to no function
+refers : (m : Module) (word : List ℕ) (v : Value) → IsArgument word v → IsOfModule m v
+refers m word (I32 n) a = tt
+refers m word (I64 n) a = tt
+refers m word (Func None) a = tt
+refers m word (Func (Some f)) a = absurd a
+refers m word Extern a = tt
+
+each_refers : (m : Module) (words : List (List ℕ)) (args : List Value) → AllZip IsArgument words args → AllByRecursion (IsOfModule m) args
+each_refers m [] [] zipped = tt
+each_refers m [] (v ∷ vs) zipped = absurd zipped
+each_refers m (w ∷ ws) [] zipped = absurd zipped
+each_refers m (w ∷ ws) (v ∷ vs) zipped = (refers m w v zipped.0, each_refers m ws vs zipped.1)
+
+all_refer : (m : Module) (words : List (List ℕ)) (args : List Value) → AllZip IsArgument words args → All (IsOfModule m) args
+all_refer m words args zipped = All-from_recursion (IsOfModule m) args (each_refers m words args zipped)
+
+-- an option is in its range
+in_range : (name : List ℕ) (least most usual n : ℕ) (words : List (List ℕ)) → least ≤ usual → usual ≤ most → IsOption name least most usual words n → (least ≤ n) × (n ≤ most)
+in_range name least most usual n words low high is =
+    elim is [
+      | inl left ↦ rw left.1 (low, high)
+      | inr given ↦ (given.2.from, given.2.to)
+    ]
+
+pub explore_can_run : (m : Module) (name : List ℕ) (args : List Value) (bounds : Bounds) (f : ℕ) → IsSpelled (Explore name args bounds) → IsReady m → IsEntry m name args f → CanRun m f args bounds.steps
+explore_can_run m name args bounds f spelled ready entry =
+    let s : SpellsExplore spelled.0 name args bounds = spelled.1 in
+    let steps : (1 ≤ bounds.steps) × (bounds.steps ≤ 10000000) = in_range (codes "--steps") 1 10000000 1000000 bounds.steps s.bounded.steps (lit≤ tt) (lit≤ tt) s.bounded.are_steps in
+    record { ready = ready; fit = entry.fits; refer = all_refer m s.arguments args s.argued; least = steps.0; most = steps.1 }
+
+pub run_can_run : (m : Module) (name : List ℕ) (args : List Value) (options : RunOptions) (f : ℕ) → IsSpelled (Run name args options) → IsReady m → IsEntry m name args f → CanRun m f args options.steps
+run_can_run m name args options f spelled ready entry =
+    let s : SpellsRun spelled.0 name args options = spelled.1 in
+    let steps : (1 ≤ options.steps) × (options.steps ≤ 10000000) = in_range (codes "--steps") 1 10000000 1000000 options.steps s.chosen.steps (lit≤ tt) (lit≤ tt) s.chosen.are_steps in
+    record { ready = ready; fit = entry.fits; refer = all_refer m s.arguments args s.argued; least = steps.0; most = steps.1 }
 
 -- a report answers a source
 pub of_source : (status : Status) (rows : List Row) → status ≡ status_of rows → IsOfSource status

@@ -10,7 +10,7 @@ use Rattle.wasm_image.specs.Hosts.{AreLinked, IsFirstUnlinked}
 use Rattle.wasm_image.specs.Sizes.{IsTooLarge}
 use Rattle.owi_cmd.specs.Report.{line, name_text}
 use Rattle.owi_cmd.specs.Faults.{fault_status, fault_text, large_text}
-use Rattle.owi_cmd.specs.Sources.{IsText, IsRefused, IsRun, SpellsValid, AnswersShort, IsOfSource}
+use Rattle.owi_cmd.specs.Sources.{IsText, IsRefused, AsksToRun, SpellsValid, AnswersShort, IsOfSource}
 use Rattle.owi_cmd.specs.declared.words.Command.{Command}
 use Rattle.owi_cmd.specs.declared.status.Status.{Status}
 use Rattle.owi_cmd.specs.declared.status.Status.TheVariants.{Malformed, Outside, Limit, Unlinked}
@@ -43,11 +43,11 @@ refusal source (Some fault) status bytes binary has says =
 
 -- ---- modules that aren't run
 
-pub of_unlinked : (source : List ℕ) (m : Module) (number : ℕ) (import : Import) (status : Status) (bytes : List ℕ) → SpellsValid source m → IsFirstUnlinked m number → slice_get m.imports number ≡ Some import → status ≡ Unlinked → bytes ≡ line (codes "unlinked " ++ name_text import.module ++ codes " " ++ name_text import.name) → (command : Command) → IsRun command → AnswersShort command source status bytes
+pub of_unlinked : (source : List ℕ) (m : Module) (number : ℕ) (import : Import) (status : Status) (bytes : List ℕ) → SpellsValid source m → IsFirstUnlinked m number → slice_get m.imports number ≡ Some import → status ≡ Unlinked → bytes ≡ line (codes "unlinked " ++ name_text import.module ++ codes " " ++ name_text import.name) → (command : Command) → AsksToRun command → AnswersShort command source status bytes
 of_unlinked source m number import status bytes spelled first is counted written command run =
     let same : first.entry ≡ import = (let there = first.there in cc) in
     rw counted (run, record { spelled = m; is = spelled; number = number; first = first; written = rw same written })
 
-pub of_oversized : (source : List ℕ) (m : Module) (large : Large) (status : Status) (bytes : List ℕ) → SpellsValid source m → AreLinked m → IsTooLarge m large → status ≡ Limit → bytes ≡ line (large_text large) → (command : Command) → IsRun command → AnswersShort command source status bytes
+pub of_oversized : (source : List ℕ) (m : Module) (large : Large) (status : Status) (bytes : List ℕ) → SpellsValid source m → AreLinked m → IsTooLarge m large → status ≡ Limit → bytes ≡ line (large_text large) → (command : Command) → AsksToRun command → AnswersShort command source status bytes
 of_oversized source m large status bytes spelled linked first counted written command run =
     rw counted (inr (inl (run, record { spelled = m; is = spelled; linked = linked; large = large; first = first; written = written })))

@@ -1,8 +1,8 @@
 -- What a command answers to the bytes of a source.
 use Rattle.std.specs.Prelude.{◌≡◌, ◌≢◌, ℕ, ◌<◌, ◌≤◌, ◌⊎◌, List, [], ◌∷◌, ◌++◌, length, codes, Some, None}
-use Rattle.wasm_ast.specs.declared.instructions.Instr.{Instr}
 use Rattle.wasm_ast.specs.declared.modules.Module.{Module}
-use Rattle.wasm_ast.specs.declared.runs.Outcome.{Outcome}
+use Rattle.wasm_ast.specs.declared.runs.Ran.{Ran}
+use Rattle.wasm_ast.specs.declared.runs.Value.{Value}
 use Rattle.wasm_binary.specs.Faults.{Fault}
 use Rattle.wasm_binary.specs.Modules.{IsBinary, BinaryFault}
 use Rattle.wasm_check.specs.declared.why.Why.{Why}
@@ -15,14 +15,15 @@ use Rattle.wasm_image.specs.Hosts.{AreLinked, IsFirstUnlinked}
 use Rattle.wasm_image.specs.Sizes.{IsTooLarge}
 use Rattle.wasm_image.specs.Ready.{IsReady}
 use Rattle.wasm_write.specs.Modules.{shortest, sections, first_long}
-use Rattle.wasm_run.specs.Forms.{HasStraightForm}
-use Rattle.wasm_run.specs.Reduction.{BoundedRun}
+use Rattle.wasm_run.specs.Bounded.{RunGives}
 use Rattle.owi_cmd.specs.Report.{line, name_text, report_of}
 use Rattle.owi_cmd.specs.Rows.{only_row, status_of}
+use Rattle.owi_cmd.specs.Runs.{run_text, status_of_run}
 use Rattle.owi_cmd.specs.Faults.{fault_status, fault_text, why_text, large_text}
 use Rattle.owi_cmd.specs.declared.report.Bounds.{Bounds}
 use Rattle.owi_cmd.specs.declared.words.Command.{Command}
-use Rattle.owi_cmd.specs.declared.words.Command.TheVariants.{Explore, ConvertBinary, Validate}
+use Rattle.owi_cmd.specs.declared.words.Command.TheVariants.{Explore, Run, ConvertBinary, Validate}
+use Rattle.owi_cmd.specs.declared.words.RunOptions.{RunOptions}
 use Rattle.owi_cmd.specs.declared.status.Status.{Status}
 use Rattle.owi_cmd.specs.declared.status.Status.TheVariants.{Done, Found, Malformed, Outside, Limit, Invalid, Unlinked, Entry, NotYet}
 
@@ -34,15 +35,17 @@ most_bytes = 16777216
 
 -- the command asks for a valid module
 abbrev pub AsksValidity : Command → Type 0
-AsksValidity (Explore name bounds) = Unit {0}
+AsksValidity (Explore name args bounds) = Unit {0}
+AsksValidity (Run name args options) = Unit {0}
 AsksValidity ConvertBinary = ⊥
 AsksValidity Validate = Unit {0}
 
 -- the command runs the module
-abbrev pub IsRun : Command → Type 0
-IsRun (Explore name bounds) = Unit {0}
-IsRun ConvertBinary = ⊥
-IsRun Validate = ⊥
+abbrev pub AsksToRun : Command → Type 0
+AsksToRun (Explore name args bounds) = Unit {0}
+AsksToRun (Run name args options) = Unit {0}
+AsksToRun ConvertBinary = ⊥
+AsksToRun Validate = ⊥
 
 -- A source is binary where its first byte is 0; else it is text, which isn't read yet.
 abbrev pub IsText : List ℕ → Type 0
@@ -93,21 +96,21 @@ pub record IsOversized (source bytes : List ℕ) : Type 0 where
   pub first : IsTooLarge spelled large
   pub written : bytes ≡ line (large_text large)
 
--- The module exports no function by this name that takes no arguments.
-pub record HasNoEntry (name source bytes : List ℕ) : Type 0 where
+-- The module exports no function by this name that takes these arguments.
+pub record HasNoEntry (name : List ℕ) (args : List Value) (source bytes : List ℕ) : Type 0 where
   pub spelled : Module
   pub is : SpellsReady source spelled
   pub why : EntryBad
-  pub lacks : IsNoEntry spelled name [] why
+  pub lacks : IsNoEntry spelled name args why
   pub written : bytes ≡ line (codes "entry " ++ name_text name)
 
--- The module isn't straight, so that its function can't be run yet.
-pub record IsNotStraight (name source : List ℕ) : Type 0 where
+-- The module has an import, so that it isn't explored yet.
+pub record HasImport (name : List ℕ) (args : List Value) (source : List ℕ) : Type 0 where
   pub spelled : Module
   pub is : SpellsReady source spelled
   pub function : ℕ
-  pub entry : IsEntry spelled name [] function
-  pub other : (exported : List ℕ) (body : List Instr) → ¬ HasStraightForm spelled exported body
+  pub entry : IsEntry spelled name args function
+  pub imported : spelled.imports ≢ []
 
 -- A section of the module would be too long where it is written.
 pub record IsTooLong (source bytes : List ℕ) : Type 0 where
@@ -119,16 +122,28 @@ pub record IsTooLong (source bytes : List ℕ) : Type 0 where
 
 -- ---- what is done
 
--- The module is straight, and its export has this name: bytes are the report of its bounded run.
-pub record Explores (name : List ℕ) (bounds : Bounds) (source : List ℕ) (status : Status) (bytes : List ℕ) : Type 0 where
+-- The module has no import, so that it has one bounded run: bytes are the report of its one row.
+pub record Explores (name : List ℕ) (args : List Value) (bounds : Bounds) (source : List ℕ) (status : Status) (bytes : List ℕ) : Type 0 where
   pub spelled : Module
   pub is : SpellsReady source spelled
-  pub body : List Instr
-  pub straight : HasStraightForm spelled name body
-  pub outcome : Outcome
-  pub run : BoundedRun body bounds.steps outcome
-  pub written : bytes ≡ report_of (record { name = name; args = []; bounds = bounds }) (only_row outcome ∷ [])
-  pub counted : status ≡ status_of (only_row outcome ∷ [])
+  pub function : ℕ
+  pub entry : IsEntry spelled name args function
+  pub closed : spelled.imports ≡ []
+  pub ran : Ran
+  pub run : RunGives spelled function args [] bounds.steps ran
+  pub written : bytes ≡ report_of (record { name = name; args = args; bounds = bounds }) (only_row ran.outcome ∷ [])
+  pub counted : status ≡ status_of (only_row ran.outcome ∷ [])
+
+-- bytes tell the bounded run of the function that the module exports by this name.
+pub record Runs (name : List ℕ) (args : List Value) (options : RunOptions) (source : List ℕ) (status : Status) (bytes : List ℕ) : Type 0 where
+  pub spelled : Module
+  pub is : SpellsReady source spelled
+  pub function : ℕ
+  pub entry : IsEntry spelled name args function
+  pub ran : Ran
+  pub run : RunGives spelled function args options.input options.steps ran
+  pub written : bytes ≡ run_text name args options.steps ran
+  pub counted : status ≡ status_of_run ran.outcome
 
 -- bytes are the shortest spelling of the module that the source spells.
 pub record Converts (source bytes : List ℕ) : Type 0 where
@@ -147,25 +162,29 @@ pub record Validates (source bytes : List ℕ) : Type 0 where
 
 -- the command can't be carried out yet on the module of the source
 abbrev pub IsPutOff : Command → List ℕ → Type 0
-IsPutOff (Explore name bounds) source = IsNotStraight name source
+IsPutOff (Explore name args bounds) source = HasImport name args source
+IsPutOff (Run name args options) source = ⊥
 IsPutOff ConvertBinary source = ⊥
 IsPutOff Validate source = ⊥
 
 -- the module of the source has no function to run
 abbrev pub LacksEntry : Command → List ℕ → List ℕ → Type 0
-LacksEntry (Explore name bounds) source bytes = HasNoEntry name source bytes
+LacksEntry (Explore name args bounds) source bytes = HasNoEntry name args source bytes
+LacksEntry (Run name args options) source bytes = HasNoEntry name args source bytes
 LacksEntry ConvertBinary source bytes = ⊥
 LacksEntry Validate source bytes = ⊥
 
 -- what the command writes of the module of the source is too long
 abbrev pub PassesOutput : Command → List ℕ → List ℕ → Type 0
-PassesOutput (Explore name bounds) source bytes = ⊥
+PassesOutput (Explore name args bounds) source bytes = ⊥
+PassesOutput (Run name args options) source bytes = ⊥
 PassesOutput ConvertBinary source bytes = IsTooLong source bytes
 PassesOutput Validate source bytes = ⊥
 
 -- the command is carried out on the module of the source
 abbrev pub CarriesOut : Command → List ℕ → Status → List ℕ → Type 0
-CarriesOut (Explore name bounds) source status bytes = Explores name bounds source status bytes
+CarriesOut (Explore name args bounds) source status bytes = Explores name args bounds source status bytes
+CarriesOut (Run name args options) source status bytes = Runs name args options source status bytes
 CarriesOut ConvertBinary source Done bytes = Converts source bytes
 CarriesOut ConvertBinary source status bytes = ⊥
 CarriesOut Validate source Done bytes = Validates source bytes
@@ -176,9 +195,9 @@ abbrev pub AnswersShort : Command → List ℕ → Status → List ℕ → Type 
 AnswersShort command source Malformed bytes = IsRefused source Malformed bytes
 AnswersShort command source Outside bytes = IsRefused source Outside bytes
 AnswersShort command source Limit bytes =
-    IsRefused source Limit bytes ⊎ (IsRun command × IsOversized source bytes) ⊎ PassesOutput command source bytes
+    IsRefused source Limit bytes ⊎ (AsksToRun command × IsOversized source bytes) ⊎ PassesOutput command source bytes
 AnswersShort command source Invalid bytes = AsksValidity command × IsInvalid source bytes
-AnswersShort command source Unlinked bytes = IsRun command × IsUnlinked source bytes
+AnswersShort command source Unlinked bytes = AsksToRun command × IsUnlinked source bytes
 AnswersShort command source Entry bytes = LacksEntry command source bytes
 AnswersShort command source NotYet bytes =
     (IsText source ⊎ IsPutOff command source) × (bytes ≡ line (codes "not yet"))

@@ -1,89 +1,66 @@
-// Exploring the function of a straight module.
-ghost use Rattle.std.specs.Prelude.{◌≡◌, List as Items, ℕ, IfOk, codes, ◌++◌, [], ◌∷◌};
+// Exploring a function of a module without imports: it makes no symbol, so it has one path.
+ghost use Rattle.std.specs.Prelude.{◌≡◌, [], ◌∷◌, IfOk};
 ghost use Rattle.wasm_image.specs.Entries.{IsEntry};
-ghost use Rattle.owi_cmd.specs.Report.{line, name_text, report_of};
+ghost use Rattle.owi_cmd.specs.Report.{report_of};
 ghost use Rattle.owi_cmd.specs.Rows.{only_row as row_of, status_of as found_in, kind_of as path_kind};
 ghost use Rattle.owi_cmd.specs.Sources.{SpellsReady, AnswersShort, IsOfSource};
+ghost use Rattle.owi_cmd.specs.Words.{IsSpelled};
 ghost use Rattle.owi_cmd.specs.declared.words.Command.TheVariants.{Explore};
 
-use crate::image::read_image;
-use crate::report::{Bounds, Head, Kind, Row, is_found, put_name, report_text};
+use crate::entry::{Entry, read_entry};
+use crate::report::{Bounds, Head, Kind, Row, is_found, report_text};
 use crate::source::not_yet;
 use crate::status::Status;
 use crate::written::Written;
 use std::alloc::{AllocError, Global};
-use wasm_ast::{List, Outcome, Text};
-use wasm_image::{Image, entry_of};
-use wasm_run::{run_straight, straight_parts};
+use wasm_ast::{List, Outcome, Text, Value};
+use wasm_run::run;
 
-/// What is written of the function that the source exports by this name.
+/// What is written of the function that the source exports by this name, with these arguments.
 pub fn explore(
     alloc: Global,
     name: Text,
+    args: List<Value>,
     bounds: Bounds,
     source: &[u8],
 ) -> Result<Written, AllocError>
-    ensures answered { IfOk result (λ w. AnswersShort (Explore name bounds) source.now w.status w.bytes.items) }
+    requires { IsSpelled (Explore name args bounds) }
+    ensures answered { IfOk result (λ w. AnswersShort (Explore name args bounds) source.now w.status w.bytes.items) }
     ensures drained { IfOk result (λ w. IsOfSource w.status) }
 {
-    match read_image(alloc, source)? {
-        Ok(image) => explore_image(alloc, name, bounds, source, &image),
+    match read_entry(alloc, &name, args.as_slice(), source)? {
+        Ok(entry) => explore_entry(alloc, name, args, bounds, source, &entry),
         Err(refusal) => Ok(refusal),
     }
 }
 
-// What is written of the function that the module of the source exports by this name.
-fn explore_image(
-    alloc: Global,
-    name: Text,
-    bounds: Bounds,
-    source: &[u8],
-    image: &Image,
-) -> Result<Written, AllocError>
-    requires { SpellsReady source.now image.now }
-    ensures answered { IfOk result (λ w. AnswersShort (Explore name bounds) source.now w.status w.bytes.items) }
-    ensures drained { IfOk result (λ w. IsOfSource w.status) }
-{
-    match entry_of(image, name.as_slice(), &[]) {
-        Ok(function) => explore_function(alloc, name, bounds, source, image, function),
-        Err(_) => {
-            let bytes = entry_line(alloc, &name)?;
-            Ok(Written {
-                status: Status::Entry,
-                bytes,
-            })
-        }
-    }
-}
-
 // What is written of this function, which the module of the source exports by this name.
-fn explore_function(
+fn explore_entry(
     alloc: Global,
     name: Text,
+    args: List<Value>,
     bounds: Bounds,
     source: &[u8],
-    image: &Image,
-    function: u32,
+    entry: &Entry,
 ) -> Result<Written, AllocError>
-    requires ready { SpellsReady source.now image.now }
-    requires entry { IsEntry image.now name [] function }
-    ensures answered { IfOk result (λ w. AnswersShort (Explore name bounds) source.now w.status w.bytes.items) }
+    requires spelled { IsSpelled (Explore name args bounds) }
+    requires ready { SpellsReady source.now entry.now.image }
+    requires entry { IsEntry entry.now.image name args entry.now.function }
+    ensures answered { IfOk result (λ w. AnswersShort (Explore name args bounds) source.now w.status w.bytes.items) }
     ensures drained { IfOk result (λ w. IsOfSource w.status) }
 {
-    let Some((_exported, body)) = straight_parts(image.module()) else {
+    if !entry.image.module().imports.is_empty() {
         return Ok(not_yet(alloc)?);
-    };
-    let outcome = run_straight(alloc, body.as_slice(), bounds.steps)?;
-    Ok(report_of_run(alloc, name, bounds, outcome)?)
-}
-
-fn entry_line(alloc: Global, name: &Text) -> Result<Vec<u8>, AllocError>
-    ensures { IfOk result (λ bytes. bytes.items ≡ line (codes "entry " ++ name_text name.now)) }
-{
-    let mut line = String::from_str(alloc, "entry ")?;
-    put_name(&mut line, name)?;
-    line.push('\n')?;
-    Ok(line.into_bytes())
+    }
+    let ran = run(
+        alloc,
+        &entry.image,
+        entry.function,
+        args.as_slice(),
+        &[],
+        bounds.steps,
+    )?;
+    Ok(report_of_run(alloc, name, args, bounds, ran.outcome)?)
 }
 
 // How a path without symbols ends.
@@ -114,10 +91,11 @@ fn only_row(alloc: Global, outcome: Outcome) -> Row
 fn report_of_run(
     alloc: Global,
     name: Text,
+    args: List<Value>,
     bounds: Bounds,
     outcome: Outcome,
 ) -> Result<Written, AllocError>
-    ensures bytes { IfOk result (λ w. w.bytes.items ≡ report_of (record { name = name; args = []; bounds = bounds }) (row_of outcome ∷ [])) }
+    ensures bytes { IfOk result (λ w. w.bytes.items ≡ report_of (record { name = name; args = args; bounds = bounds }) (row_of outcome ∷ [])) }
     ensures status { IfOk result (λ w. w.status ≡ found_in (row_of outcome ∷ [])) }
 {
     let row = only_row(alloc, outcome);
@@ -126,11 +104,7 @@ fn report_of_run(
     } else {
         Status::Done
     };
-    let head = Head {
-        name,
-        args: List::new(Vec::new(alloc)),
-        bounds,
-    };
+    let head = Head { name, args, bounds };
     let mut rows = Vec::new(alloc);
     rows.push(row)?;
     let bytes = report_text(alloc, &head, rows.as_slice())?;

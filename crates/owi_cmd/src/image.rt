@@ -5,7 +5,7 @@ ghost use Rattle.wasm_binary.specs.Modules.{IsBinary};
 ghost use Rattle.wasm_image.specs.Ready.{IsReady};
 ghost use Rattle.owi_cmd.specs.Report.{line, name_text};
 ghost use Rattle.owi_cmd.specs.Faults.{why_text, large_text};
-ghost use Rattle.owi_cmd.specs.Sources.{AsksValidity, IsRun, SpellsValid, SpellsReady, AnswersShort, IsOfSource};
+ghost use Rattle.owi_cmd.specs.Sources.{AsksValidity, AsksToRun, SpellsValid, SpellsReady, AnswersShort, IsOfSource};
 ghost use Rattle.owi_cmd.specs.declared.words.Command.{Command as OneCommand};
 
 use crate::report::put_name;
@@ -48,7 +48,7 @@ fn judged(alloc: Global, source: &[u8], m: Module) -> Result<Result<Checked, Wri
 /// The image of the module that the source spells, where it can be run, or what every command answers that runs one.
 pub fn read_image(alloc: Global, source: &[u8]) -> Result<Result<Image, Written>, AllocError>
     ensures ready { IfOk result (λ read. IfOk read (λ m. SpellsReady source.now m)) }
-    ensures refused { IfOk result (λ read. IfErr read (λ w. (command : OneCommand) → IsRun command
+    ensures refused { IfOk result (λ read. IfErr read (λ w. (command : OneCommand) → AsksToRun command
         → AnswersShort command source.now w.status w.bytes.items)) }
     ensures drained { IfOk result (λ read. IfErr read (λ w. IsOfSource w.status)) }
 {
@@ -68,7 +68,7 @@ pub fn read_image(alloc: Global, source: &[u8]) -> Result<Result<Image, Written>
 fn not_ready(alloc: Global, source: &[u8], image: &Image) -> Result<Option<Written>, AllocError>
     requires { SpellsValid source.now image.now }
     ensures ready { IfOk result (λ refusal. IfNone refusal (IsReady image.now)) }
-    ensures refused { IfOk result (λ refusal. IfSome refusal (λ w. (command : OneCommand) → IsRun command
+    ensures refused { IfOk result (λ refusal. IfSome refusal (λ w. (command : OneCommand) → AsksToRun command
         → AnswersShort command source.now w.status w.bytes.items)) }
     ensures drained { IfOk result (λ refusal. IfSome refusal (λ w. IsOfSource w.status)) }
 {

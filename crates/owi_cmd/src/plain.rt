@@ -2,7 +2,7 @@
 ghost use Rattle.std.specs.Prelude.{◌≡◌, ◌≢◌, [], List, ℕ, OnSome, Some, MatchResult, IfOk, ◌≤◌, length, map, take};
 ghost use Rattle.std.specs.Io.KnownBytes.{Appends};
 ghost use Rattle.owi_base.specs.Outside.{Rose};
-ghost use Rattle.owi_cmd.specs.Words.{Spells};
+ghost use Rattle.owi_cmd.specs.Words.{Spells, IsSpelled};
 ghost use Rattle.owi_cmd.specs.Answer.{Answers, HasReadAll, fixed_line};
 ghost use Rattle.owi_cmd.specs.Sources.{AnswersShort, AnswersSource, IsOfSource, most_bytes};
 ghost use Rattle.owi_cmd.specs.declared.words.Command.{Command as OneCommand};
@@ -10,6 +10,7 @@ ghost use Rattle.owi_cmd.specs.declared.status.Status.{Status as OneStatus};
 
 use crate::convert::convert_binary;
 use crate::explore::explore;
+use crate::run::run_once;
 use crate::status::Status;
 use crate::validate::validate;
 use crate::words::{Command, read_words};
@@ -23,7 +24,7 @@ const MOST_BYTES: u64 = 16_777_216;
 ///
 /// The refusals come in this order: `Usage`, `ReadFault`, `Limit` of the length, `NotYet` of a text, `Malformed`, `Outside` or
 /// `Limit` by the first trouble of the bytes, `Invalid`, `Unlinked`, `Limit` of a size,
-/// `Entry`, `NotYet` of a module that isn't straight, `Limit` of the output. All output is made before the
+/// `Entry`, `NotYet` of a module with an import that is to be explored, `Limit` of the output. All output is made before the
 /// first write, so `NoMemory` never follows a write.
 pub fn owi_plain<S: Source, K: Sink>(
     alloc: Global,
@@ -82,11 +83,17 @@ fn answer<S: Source>(alloc: Global, words: &[&str], source: &mut S) -> Result<Wr
 
 // What the command answers to the bytes of a whole source.
 fn carried_out(alloc: Global, command: Command, source: &[u8]) -> Result<Written, AllocError>
+    requires { IsSpelled command }
     ensures answered { IfOk result (λ w. AnswersShort command source.now w.status w.bytes.items) }
     ensures drained { IfOk result (λ w. IsOfSource w.status) }
 {
     match command {
-        Command::Explore { name, bounds } => Ok(explore(alloc, name, bounds, source)?),
+        Command::Explore { name, args, bounds } => Ok(explore(alloc, name, args, bounds, source)?),
+        Command::Run {
+            name,
+            args,
+            options,
+        } => Ok(run_once(alloc, name, args, options, source)?),
         Command::ConvertBinary => Ok(convert_binary(alloc, source)?),
         Command::Validate => Ok(validate(alloc, source)?),
     }

@@ -9,7 +9,7 @@ mod values;
 
 pub use names::put_name;
 use std::alloc::{AllocError, Global};
-use values::put_list;
+pub use values::put_list;
 use wasm_ast::{Cause, Draw, List, Text, Value};
 
 /// The bounds of an exploration.
@@ -160,7 +160,8 @@ fn put_kind(out: &mut String, kind: &Kind) -> Result<(), AllocError>
     }
 }
 
-fn cause_words(cause: Cause) -> &'static str
+/// The words for the cause of a trap.
+pub fn cause_words(cause: Cause) -> &'static str
     ensures { result.now ≡ cause_text cause }
 {
     match cause {

@@ -1,1 +1,3 @@
-pub mod StraightForms
+pub mod PlaceLemmas
+pub mod ReachedLemmas
+pub mod TurnLemmas

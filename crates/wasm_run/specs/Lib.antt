@@ -1,3 +1,2 @@
-pub mod Reduction
-pub mod Forms
-pub mod Straight
+pub mod Bounded
+pub mod Places

@@ -1,13 +1,11 @@
-// Running a function of a module.
+// Running a function of a module on an input.
 //
-// `run_straight` runs a body that only adds constants, in at most a number of steps. Its outcome is exactly that of the
-// standard's reduction under that bound, which `specs/Reduction.antt` defines; no step of such a body lacks an operand.
+// `run` carries out the bounded run: what the standard's reduction comes to, with numbers of the input as its symbols, within
+// bounds on steps and on frames. `specs/Bounded.antt` says what the call asks for and what it gives; the bounded run itself is
+// defined with the reduction.
 #![tactic(auto)]
 
-mod forms;
-mod straight;
-#[cfg(test)]
-mod tests;
+mod bounded;
+mod turns;
 
-pub use forms::straight_parts;
-pub use straight::run_straight;
+pub use bounded::run;

@@ -1,0 +1,84 @@
+-- Where the loop of a bounded run stands. No public contract speaks of these.
+use Rattle.std.specs.Prelude.{◌≡◌, ◌≢◌, ℕ, ◌^◌, ◌<◌, ◌≤◌, List, All, map, Bool, false, ◌&&◌, nat_lt, nat_le, length}
+use Rattle.std.specs.List.{AllByRecursion}
+use Rattle.wasm_ast.specs.declared.modules.Module.{Module}
+use Rattle.wasm_ast.specs.declared.runs.Draw.{Draw}
+use Rattle.wasm_ast.specs.declared.runs.Value.{Value}
+use Rattle.wasm_rules.specs.Words.{HasNumber, numbers}
+use Rattle.wasm_check.specs.Modules.{IsValid}
+use Rattle.wasm_reduction.specs.Configurations.{Config, Next, Stuck}
+use Rattle.wasm_reduction.specs.Steps.{step}
+use Rattle.wasm_reduction.specs.Runs.{Trace, Going, On, Over, Ended, follows, by_value, runs_at, draws_from, is_due, most_frames}
+use Rattle.wasm_reduction.specs.Widths.{HasNumbers, ArgumentFits, HasWidths}
+use Rattle.wasm_reduction.proofs.Endings.{Ready}
+use Rattle.wasm_machine.specs.declared.next.Next.{Next as CodeNext}
+use Rattle.wasm_machine.specs.declared.next.Next.TheVariants.{Goes as CodeGoes, Draws as CodeDraws, Asks as CodeAsks, Ends as CodeEnds}
+use Rattle.wasm_machine.specs.declared.values.Value.{Value as CodeValue}
+use Rattle.wasm_machine.specs.Acts.{Sane, told}
+use Rattle.wasm_machine.specs.Configurations.{configuration}
+use Rattle.wasm_machine.specs.States.{State}
+use Rattle.wasm_run.specs.Bounded.{CanRun}
+
+-- what is known of a run that is asked for; it is never stuck
+pub record IsAsked (m : Module) (entry : ℕ) (args : List Value) (steps : ℕ) : Type 0 where
+  pub can : CanRun m entry args steps
+  pub valid : IsValid m
+  pub has_numbers : HasNumbers m
+  pub fitting : All ArgumentFits args
+  pub goes : (input : List ℕ) (n : ℕ) (trace : Trace) → runs_at m entry args input steps n ≢ Over (Ended Stuck) trace
+
+-- the configuration that a state and the bytes of the memory are, on plain numbers
+abbrev pub config_at : Module → List ℕ → State (CodeValue ℕ) → Config ℕ
+config_at m bytes s = configuration (λ n. n) m (map (λ n. n) bytes) s
+
+-- After some turns the run goes on from this configuration, and its symbols have taken these numbers.
+pub record Place (m : Module) (entry : ℕ) (args : List Value) (input : List ℕ) (steps : ℕ) (c : Config ℕ) (draws : List Draw) : Type 0 where
+  pub at : Going ℕ
+  pub turns : ℕ
+  pub reached : runs_at m entry args input steps turns ≡ On at
+  pub is : at.config ≡ c
+  pub drawn : draws ≡ draws_from input 0 at.trace.symbols
+
+-- After some turns without a symbol a run goes on from this configuration.
+pub record ComesTo (m : Module) (steps : ℕ) (draw : ℕ → Bool → ℕ) (g : Going ℕ) (c : Config ℕ) : Type 0 where
+  pub turns : ℕ
+  pub trace : Trace
+  pub same : trace.symbols ≡ g.trace.symbols
+  pub reached : follows numbers draw by_value m steps turns g ≡ On (record { config = c; trace = trace })
+
+-- the bounds on frames and on steps let the configuration take a step
+pub record IsFree (steps : ℕ) (c : Config ℕ) : Type 0 where
+  pub frames : nat_lt most_frames (length c.callers) ≡ false
+  pub units : is_due c.frame.here.code c.callers && nat_le steps c.units ≡ false
+
+-- What holds of a configuration that may take a step: its words have their widths, its outermost frame only calls, and no bound
+-- is passed.
+pub record IsFit (steps : ℕ) (c : Config ℕ) : Type 0 where
+  pub widths : HasWidths HasNumber c
+  pub outermost : Ready c
+  pub units : c.units ≤ steps
+  pub free : IsFree steps c
+
+-- The instruction that is next in c has had all answers that it asks for, and its next step gives this.
+pub record Settled (m : Module) (steps : ℕ) (c : Config ℕ) (next : Next ℕ) : Type 0 where
+  pub answers : List ℕ
+  pub comes : (draw : ℕ → Bool → ℕ) (g : Going ℕ) → g.config ≡ c → ComesTo m steps draw g (record c { answers = answers })
+  pub gives : step numbers m (record c { answers = answers }) ≡ next
+
+-- ---- the machine's state
+
+-- the state is in order, and its words and the cells of the memory are numbers below 2^64
+pub record IsInOrder {A : Type 0} (a : A) (s : State (CodeValue ℕ)) (bytes : List ℕ) : Type 0 where
+  pub sane : Sane (λ _ w. w < 2 ^ 64) a s
+  pub cells : AllByRecursion (λ w. w < 2 ^ 64) bytes
+
+-- the same where the run goes on
+abbrev pub IsInOrderAfter : {A : Type 0} → A → State (CodeValue ℕ) → List ℕ → CodeNext ℕ → Type 0
+IsInOrderAfter a s cells CodeGoes = IsInOrder a s cells
+IsInOrderAfter a s cells (CodeDraws wide) = IsInOrder a s cells
+IsInOrderAfter a s cells (CodeAsks q w) = ⊥
+IsInOrderAfter a s cells (CodeEnds e) = Unit {0}
+
+-- what the machine says, as the reduction says it
+abbrev pub told_at : Module → List ℕ → State (CodeValue ℕ) → CodeNext ℕ → Next ℕ
+told_at m cells s x = told (λ n. n) m (map (λ n. n) cells) s x

@@ -1,0 +1,229 @@
+// One turn of a bounded run: the questions of the next instruction, each answered by its number, and then its last step.
+ghost use Rattle.std.specs.Prelude.{◌≡◌, ◌≢◌, ◌++◌, ◌∷◌, [], ◌<◌, ◌^◌, List as Items, ℕ, IfOk, IfSome, IfNone, OnOk, None, Some, ◌&&◌, nat_lt, nat_le, length, map, slice_index};
+ghost use Rattle.wasm_ast.specs.declared.modules.Module.{Module as OneModule};
+ghost use Rattle.wasm_rules.specs.Words.{HasNumber, taken};
+ghost use Rattle.wasm_image.specs.Hosts.{AreLinked};
+ghost use Rattle.wasm_reduction.proofs.Endings.{weight};
+ghost use Rattle.wasm_reduction.specs.Configurations.{Stuck};
+ghost use Rattle.wasm_reduction.specs.Maps.{ValueHas, ValuesHave};
+ghost use Rattle.wasm_reduction.specs.Runs.{answer_of, is_due as is_due_at, most_frames, outcome_of_end, plain_value};
+ghost use Rattle.wasm_reduction.specs.Widths.{EndHasWidths};
+ghost use Rattle.wasm_machine.specs.Configurations.{code_of};
+ghost use Rattle.wasm_machine.specs.Moves.{pushed};
+ghost use Rattle.wasm_machine.specs.Values.{question as question_of, value as value_as, valued, end_of};
+ghost use Rattle.wasm_run.specs.Bounded.{RunGives};
+ghost use Rattle.wasm_run.specs.Places.{IsAsked, IsInOrder, IsInOrderAfter, config_at, told_at, Place, IsFit, Settled};
+
+use std::alloc::{AllocError, Global};
+use wasm_ast::{Draw, List, Module, Outcome, Value};
+use wasm_image::Image;
+use wasm_machine::bytes::Bytes;
+use wasm_machine::machine::Machine;
+use wasm_machine::next::{End, Next, Question};
+use wasm_machine::step::step;
+use wasm_machine::values::{Reference, Value as Word};
+use wasm_rules::Numbers;
+
+/// What is to be run.
+#[derive(Clone, Copy)]
+pub struct Request<'a> {
+    pub image: &'a Image,
+    pub entry: u32,
+    pub args: &'a [Value],
+    pub input: &'a [u64],
+    pub steps: u64,
+}
+
+const MOST_FRAMES: usize = 1_024;
+
+/// One turn, with its questions. None where the run goes on, else how it ends.
+pub fn turn(
+    alloc: Global,
+    request: &Request,
+    numbers: &mut Numbers,
+    s: &mut Machine<u64>,
+    memory: &mut Bytes,
+    draws: &mut Vec<Draw>,
+) -> Result<Option<Outcome>, AllocError>
+    requires asked { IsAsked request.now.image.now request.now.entry request.now.args.now request.now.steps }
+    requires order { IsInOrder numbers.old s.old memory.old }
+    requires place { Place request.now.image.now request.now.entry request.now.args.now request.now.input.now request.now.steps
+        (config_at request.now.image.now memory.old s.old) draws.old.items }
+    ensures order { IfOk result (λ end. IfNone end (IsInOrder numbers.new s.new memory.new)) }
+    ensures place { IfOk result (λ end. IfNone end (Place request.now.image.now request.now.entry request.now.args.now request.now.input.now request.now.steps
+        (config_at request.now.image.now memory.new s.new) draws.new.items)) }
+    ensures lighter { IfOk result (λ end. IfNone end (weight request.now.steps (config_at request.now.image.now memory.new s.new)
+        < weight request.now.steps (config_at request.now.image.now memory.old s.old))) }
+    ensures gives { IfOk result (λ end. IfSome end (λ outcome. RunGives request.now.image.now request.now.entry request.now.args.now request.now.input.now request.now.steps
+        (record { outcome = outcome; draws = draws.new.items }))) }
+{
+    if is_deep(s) {
+        return Ok(Some(Outcome::Deep));
+    }
+    if is_spent(s, request.image.module(), request.steps) {
+        return Ok(Some(Outcome::Bound));
+    }
+    match settle(alloc, request.image, request.steps, numbers, s, memory)? {
+        Next::Goes => Ok(None),
+        Next::Draws(wide) => {
+            draw(s, draws, request.input, wide)?;
+            Ok(None)
+        }
+        Next::Ends(end) => {
+            let outcome = outcome_of(alloc, end)?;
+            Ok(Some(outcome))
+        }
+        Next::Asks(_, _) => unreachable!(),
+    }
+}
+
+// Whether the bound on frames is passed.
+#[tactic(auto, using(crate::proofs::TurnLemmas::is_deep_by))]
+fn is_deep(s: &Machine<u64>) -> bool
+    ensures { (m : OneModule) (bytes : Items ℕ) → result ≡ nat_lt most_frames (length (config_at m bytes s.now).callers) }
+{
+    s.depth() > MOST_FRAMES
+}
+
+// Whether all units are spent, and an instruction is next, which costs one.
+#[tactic(auto, using(crate::proofs::TurnLemmas::spent_no, crate::proofs::TurnLemmas::spent_yes))]
+fn is_spent(s: &Machine<u64>, m: &Module, steps: u64) -> bool
+    ensures { (bytes : Items ℕ) → result ≡ (is_due_at (config_at m.now bytes s.now).frame.here.code (config_at m.now bytes s.now).callers && nat_le steps s.now.units) }
+{
+    if s.units < steps {
+        return false;
+    }
+    is_due(s, m)
+}
+
+// Whether an instruction of a function is next.
+fn is_due(s: &Machine<u64>, m: &Module) -> bool
+    ensures { (bytes : Items ℕ) → result ≡ is_due_at (config_at m.now bytes s.now).frame.here.code (config_at m.now bytes s.now).callers }
+{
+    if s.depth() == 0 {
+        return false;
+    }
+    match s.frame.func {
+        Some(f) => s.instruction(f, m).is_some(),
+        None => s.frame.here.place < outer_calls(m),
+    }
+}
+
+// How many calls the outermost frame makes: that of the start function, where there is one, and that of the entry.
+fn outer_calls(m: &Module) -> usize
+    ensures { (entry : ℕ) → result ≡ length (code_of m.now entry None 0) }
+{
+    if m.start.is_some() { 2 } else { 1 }
+}
+
+// Answers what the next instruction asks, and carries out its last step.
+fn settle(
+    alloc: Global,
+    image: &Image,
+    steps: u64,
+    numbers: &mut Numbers,
+    s: &mut Machine<u64>,
+    memory: &mut Bytes,
+) -> Result<Next<u64>, AllocError>
+    requires linked { AreLinked image.now }
+    requires order { IsInOrder numbers.old s.old memory.old }
+    requires fit { IsFit steps (config_at image.now memory.old s.old) }
+    requires steps { steps < 2 ^ 63 }
+    ensures settled { IfOk result (λ x. Settled image.now steps (config_at image.now memory.old s.old) (told_at image.now memory.new s.new x)) }
+    ensures order { IfOk result (λ x. IsInOrderAfter numbers.new s.new memory.new x) }
+{
+    'asking: loop {
+        match step(alloc, numbers, s, memory, image)? {
+            Next::Asks(q, w) => s.note(answer(q, w))?,
+            x => return Ok(x),
+        }
+    }
+}
+
+// How a question is answered: 1 where its number isn't 0, and a pick by the number.
+fn answer(q: Question, n: u64) -> u64
+    ensures { result ≡ answer_of (question_of q) n }
+{
+    match q {
+        Question::Pick => n,
+        Question::Test => (n != 0) as u64,
+        Question::Assume => (n != 0) as u64,
+    }
+}
+
+// The next symbol takes its number, and is the next operand.
+fn draw(
+    s: &mut Machine<u64>,
+    draws: &mut Vec<Draw>,
+    input: &[u64],
+    wide: bool,
+) -> Result<(), AllocError>
+    ensures symbol { OnOk result (s.new ≡ pushed (valued wide (taken input.now (length draws.old.items) wide)) s.old) }
+    ensures draws { OnOk result (draws.new.items ≡ draws.old.items ++ record { wide = wide; value = taken input.now (length draws.old.items) wide } ∷ []) }
+{
+    let n = taken_at(input, draws.as_slice().len(), wide);
+    s.push(Word::of_word(wide, n))?;
+    draws.push(Draw { wide, value: n })?;
+    Ok(())
+}
+
+// The k-th number, or 0 past the end.
+fn number_at(input: &[u64], k: usize) -> u64
+    ensures { result ≡ slice_index input.now k }
+{
+    match input.get(k) {
+        Some(n) => *n,
+        None => 0,
+    }
+}
+
+// The k-th number of the input, or 0 past its end, modulo 2^32 where it is of 32 bits.
+fn taken_at(input: &[u64], k: usize, wide: bool) -> u64
+    ensures { result ≡ taken input.now k wide }
+{
+    let n = number_at(input, k);
+    if wide { n } else { n % 4_294_967_296 }
+}
+
+// A result as a value.
+fn value_of(v: Word<u64>) -> Value
+    requires { ValueHas HasNumber (value_as (λ n. n) v) }
+    ensures { result ≡ plain_value (value_as (λ n. n) v) }
+{
+    match v {
+        Word::I32(n) => Value::I32(n as u32),
+        Word::I64(n) => Value::I64(n),
+        Word::Ref(Reference::Func(f)) => Value::Func(f),
+        Word::Ref(Reference::Extern) => Value::Extern,
+    }
+}
+
+// The outcome of a run that ends.
+pub fn outcome_of(alloc: Global, end: End<u64>) -> Result<Outcome, AllocError>
+    requires widths { EndHasWidths HasNumber (end_of (λ n. n) end) }
+    requires goes { end_of (λ n. n) end ≢ Stuck }
+    ensures { IfOk result (λ outcome. outcome_of_end (end_of (λ n. n) end) ≡ Some outcome) }
+{
+    match end {
+        End::Returns(values) => {
+            let values = values_of(alloc, values.as_slice())?;
+            Ok(Outcome::Returns(List::new(values)))
+        }
+        End::Traps(cause) => Ok(Outcome::Traps(cause)),
+        End::Fails => Ok(Outcome::Fails),
+        End::Assumes => Ok(Outcome::Assumes),
+        End::Stuck => unreachable!(),
+    }
+}
+
+// The results as values.
+fn values_of(alloc: Global, words: &[Word<u64>]) -> Result<Vec<Value>, AllocError>
+    requires { ValuesHave HasNumber (map (value_as (λ n. n)) words.now) }
+    ensures { IfOk result (λ v. v.items ≡ map plain_value (map (value_as (λ n. n)) words.now)) }
+{
+    let mut values = Vec::new(alloc);
+    for v in words {
+        values.push(value_of(*v))?;
+    }
+    Ok(values)
+}
