@@ -1,4 +1,8 @@
 pub mod Statuses
+pub mod Places
+pub mod Results
+pub mod Numbers
+pub mod Watching
 pub mod Joins
 pub mod Analyses
 pub mod Running

@@ -1,8 +1,10 @@
 -- What clauses are on a trail, a step at a time.
-use Rattle.std.proofs.Common.{◌≡◌, ◌<◌, ◌≤◌, ◌+◌, ℕ, zero, suc, List, [], ◌∷◌, length, drop, get_or, refl, sym, ap, ◌∙◌, arith}
-use Rattle.std.specs.Prelude.{Option, Some, None, slice_get}
-use Rattle.std.proofs.lemmas.Option.{slice_get-get_or}
-use Rattle.refute_check.specs.Machine.{Trail, True, Unset, value_of, Status, Falsified, Forces, Idle, status_with, status, falsified_with, falsified}
+use Rattle.std.proofs.Common.{◌≡◌, ◌<◌, ◌≤◌, ◌+◌, ℕ, zero, suc, List, [], ◌∷◌, length, drop, get_or, refl, ap, ◌∙◌, arith}
+use Rattle.std.specs.Prelude.{Option, Some, None}
+use Rattle.clause_solver.specs.Seen.{status_seen}
+use Rattle.clause_solver.specs.declared.rules.Status.{Status as OneStatus}
+use Rattle.clause_solver.specs.declared.rules.Status.TheVariants.{Falsified as IsFalsified, Forces as DoesForce, Idle as IsIdle}
+use Rattle.refute_check.specs.Machine.{Trail, True, Unset, value_of, Status, Falsified, Forces, Idle, status_with, status}
 
 -- a status with an unset literal before
 abbrev pub with_unset : Option ℕ → Status → Status
@@ -42,11 +44,13 @@ seen_two k l Falsified = refl
 seen_two k l (Forces m) = refl
 seen_two k l Idle = refl
 
--- the clause at this place is falsified, and none before it is
-pub falsified_here : (t : Trail) (cs : List (List ℕ)) (i : ℕ) (c d : List ℕ) → i < length cs → c ≡ get_or cs i d → falsified t 0 cs ≡ falsified t i (drop i cs) → status t c ≡ Falsified →
-    (x : List ℕ) × (slice_get cs i ≡ Some x) × (falsified t 0 cs ≡ Some (i, x))
-falsified_here t cs i c d l e h s = (
-  c,
-  slice_get-get_or cs i d l ∙ ap (λ c. Some c) (sym e),
-  h ∙ ap (λ cs. falsified t i cs) (parts cs i d l ∙ ap (λ c. c ∷ drop (i + 1) cs) (sym e)) ∙ ap (λ s. falsified_with s (i, c) (falsified t (suc i) (drop (i + 1) cs))) s,
-)
+-- a status that isn't this one
+pub not_falsified : (s : OneStatus) → (s ≡ IsFalsified → ⊥) → status_seen s ≡ Falsified → ⊥
+not_falsified IsFalsified n e = n refl
+not_falsified (DoesForce l) n e = cc
+not_falsified IsIdle n e = cc
+
+pub not_forces : (s : OneStatus) → ((l : ℕ) → s ≡ DoesForce l → ⊥) → (l : ℕ) → status_seen s ≡ Forces l → ⊥
+not_forces IsFalsified n l e = cc
+not_forces (DoesForce k) n l e = n k refl
+not_forces IsIdle n l e = cc

@@ -1,12 +1,13 @@
 -- What a turn comes to, by the rule that fits.
 use Rattle.std.proofs.Common.{◌≡◌, ◌<◌, ◌≤◌, ◌+◌, ℕ, suc, List, [], ◌∷◌, ◌++◌, inl, inr, refl, sym, ap, ◌∙◌, subst, arith}
 use Rattle.refute_check.specs.Orders.{Names}
-use Rattle.refute_check.proofs.Trails.{unset-is}
+use Rattle.refute_check.proofs.Membership.{variable-negative}
+use Rattle.refute_check.proofs.Trails.{unset-is, forced-is, status-forces}
 use Rattle.std.specs.Prelude.{Some, None, Bool, true, false, nat_lt, if◌then◌else◌}
 use Rattle.std.proofs.lemmas.Bool.{ltb-true}
-use Rattle.refute_check.specs.Clauses.{Clause}
+use Rattle.refute_check.specs.Clauses.{Clause, variable_of, negative}
 use Rattle.refute_check.specs.declared.logs.Chain.{Chain}
-use Rattle.refute_check.specs.Machine.{Trail, State, On, Refuted, Spent, analysed, is_learnt, is_empty, has_decision, level_now, highest_but, cut, chain_of, learn, conflict, puts, force, decide, turn_by, turn, falsified, forced, unset}
+use Rattle.refute_check.specs.Machine.{Trail, entry_of, State, On, Refuted, Spent, analysed, is_learnt, is_empty, has_decision, level_now, highest_but, cut, chain_of, learn, conflict, puts, force, decide, turn_by, turn, falsified, forced, unset}
 
 pub turn_conflict : (order : List ℕ) (bound : ℕ) (s : State) (k : ℕ) (c : Clause) → falsified s.trail 0 s.clauses ≡ Some (k, c) → turn order bound s ≡ conflict bound s (k, c)
 turn_conflict order bound s k c e = ap (λ o. turn_by order bound s o) e
@@ -85,3 +86,10 @@ unset_named t order v e = let u = unset-is t order v (sym e) in subst (λ o. Nam
     in_middle : (xs : List ℕ) (v : ℕ) (ys : List ℕ) → Names (xs ++ v ∷ ys) v
     in_middle [] v ys = inl refl
     in_middle (x ∷ xs) v ys = inr (in_middle xs v ys)
+
+-- the variables that are put on the trail aren't there yet
+pub unset_free : (t : Trail) (order : List ℕ) (v : ℕ) → Some v ≡ unset t order → entry_of t (variable_of (negative v)) ≡ None
+unset_free t order v e = ap (λ v. entry_of t v) (variable-negative v) ∙ (unset-is t order v (sym e)).4
+
+pub forced_free : (t : Trail) (cs : List Clause) (k l : ℕ) → Some (k, l) ≡ forced t 0 cs → entry_of t (variable_of l) ≡ None
+forced_free t cs k l e = let f = forced-is t 0 cs k l (sym e) in (status-forces t f.1 l f.4).free

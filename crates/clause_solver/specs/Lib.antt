@@ -1,4 +1,6 @@
 pub mod Seen
+pub mod Places
+pub mod Watching
 pub mod Analysis
 pub mod Turned
 pub mod Answers

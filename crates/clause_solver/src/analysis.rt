@@ -1,6 +1,7 @@
 // The analysis of a conflict.
-ghost use Rattle.std.specs.Prelude.{◌≡◌, ◌+◌, Bool, ℕ, List, Option, Some, None, IfOk, MatchOption, slice_get};
+ghost use Rattle.std.specs.Prelude.{◌≡◌, ◌+◌, Bool, ℕ, List, Option, Some, None, IsTrue, IfOk, MatchOption, slice_get};
 ghost use Rattle.refute_check.specs.Logs.{after_step};
+ghost use Rattle.refute_check.specs.Resolution.{each_once};
 ghost use Rattle.refute_check.specs.Machine.{Entry as OneEntry, Learnt as OneLearnt, stays, by_reason, analysed as analysed_of, count_at as count_of, highest_but as highest_of, has_variable as held_in};
 ghost use Rattle.refute_check.specs.Clauses.{variable_of};
 ghost use Rattle.clause_solver.specs.Analysis.{enough_for};
@@ -40,18 +41,23 @@ pub fn analysed(
 {
     let mut clause = clause;
     let mut steps = Items::new(Vec::new(alloc));
+    // Whether the clause is known to name each literal once, as all but the first do.
+    let mut once = false;
+    let mut far = enough(until, trail, &clause);
     for after in 0..trail.len() {
-        if enough(until, trail, &clause) {
+        if far {
             return Ok(Learnt { clause, steps });
         }
         let entry = trail.get(after);
         let variable = entry.variable();
         if has_variable(&clause, variable) {
-            let Some((reason, next)) = step(alloc, clauses, entry, &clause)? else {
+            let Some((reason, next)) = step(alloc, clauses, entry, &clause, once)? else {
                 return Ok(Learnt { clause, steps });
             };
             steps.push((reason, variable))?;
             clause = next;
+            once = true;
+            far = enough(until, trail, &clause);
         }
     }
     Ok(Learnt { clause, steps })
@@ -81,7 +87,9 @@ fn step(
     clauses: &[Clause],
     entry: Entry,
     clause: &Clause,
+    once: bool,
 ) -> Result<Option<(u64, Clause)>, AllocError>
+    requires { IsTrue once → each_once clause.now ≡ clause.now }
     ensures { IfOk result (λ found. MatchOption found
         ((on : List ℕ → OneLearnt) → by_reason clauses.now entry.reason (variable_of entry.literal) clause.now on ≡ stays clause.now)
         (λ next. (entry.reason ≡ Some next.0) × (after_step clauses.now (next.0, variable_of entry.literal) clause.now ≡ Some next.1))) }
@@ -94,7 +102,7 @@ fn step(
         return Ok(None);
     }
     let other = clauses[number].as_slice();
-    match resolvent(alloc, clause.as_slice(), other, entry.variable())? {
+    match resolvent(alloc, clause.as_slice(), other, entry.variable(), once)? {
         None => Ok(None),
         Some(next) => Ok(Some((reason, next))),
     }

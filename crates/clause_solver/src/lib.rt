@@ -7,7 +7,9 @@
 
 mod analysis;
 pub mod answer;
+mod candidates;
 pub mod crossing;
+mod lists;
 mod machine;
 mod resolution;
 mod rules;

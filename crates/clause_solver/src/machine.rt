@@ -1,12 +1,16 @@
 // The state of the machine, and its turns.
-ghost use Rattle.std.specs.Prelude.{◌≡◌, ◌+◌, ◌^◌, ◌<◌, ℕ, List, Some, IfOk, slice_get};
-ghost use Rattle.refute_check.specs.Machine.{turn as turn_of, conflict as conflict_of, decide as decide_of, unset as unset_of, start as start_of};
+ghost use Rattle.std.specs.Prelude.{◌≡◌, ◌+◌, ◌++◌, ◌∷◌, [], ◌^◌, ◌<◌, ℕ, List, Some, None, IfOk, OnOk, slice_get};
+ghost use Rattle.refute_check.specs.Clauses.{variable_of};
+ghost use Rattle.refute_check.specs.Machine.{On as GoesOn, entry_of, turn as turn_of, conflict as conflict_of, decide as decide_of, puts as puts_of, unset as unset_of, start as start_of};
 ghost use Rattle.refute_check.specs.Orders.{Names};
 ghost use Rattle.refute_check.specs.Rising.{Rises};
-ghost use Rattle.clause_solver.specs.Turned.{seen, IsTurn};
+ghost use Rattle.clause_solver.specs.Turned.{seen, IsTurn, IsWatched};
+ghost use Rattle.clause_solver.specs.Watching.{opposite, IsListed};
 
 use crate::analysis::{Until, analysed, highest_but};
-use crate::rules::{falsified, forced, unset};
+use crate::candidates::Candidates;
+use crate::lists::{Lists, lists_of};
+use crate::rules::unset;
 use crate::trail::{Entry, Trail};
 use refute_check::{Chain, Clause, Items, Log};
 use std::alloc::{AllocError, Global};
@@ -32,18 +36,32 @@ pub struct State {
     pub log: Log,
     /// How many conflicts were counted.
     pub conflicts: u64,
+    /// For each literal the numbers of the clauses that hold it.
+    pub lists: Lists,
+    /// The clauses that a turn has to look at.
+    pub candidates: Candidates,
+    /// So many variables of the order are set.
+    pub ahead: usize,
 }
 
 impl State {
-    pub fn start(alloc: Global, clauses: Items<Clause>) -> State
-        ensures { seen result ≡ start_of clauses }
+    pub fn start(alloc: Global, clauses: Items<Clause>) -> Result<State, AllocError>
+        ensures seen { IfOk result (λ state. seen state ≡ start_of clauses) }
+        ensures watched { IfOk result (λ state. (order : List ℕ) → IsWatched order state) }
     {
-        State {
+        let trail = Trail::new(alloc);
+        let lists = lists_of(alloc, &clauses)?;
+        let mut candidates = Candidates::new(alloc);
+        candidates.look_at_all(&trail, &clauses)?;
+        Ok(State {
             clauses,
-            trail: Trail::new(alloc),
+            trail,
             log: Items::new(Vec::new(alloc)),
             conflicts: 0,
-        }
+            lists,
+            candidates,
+            ahead: 0,
+        })
     }
 
     /// Carries out the first rule that fits.
@@ -51,16 +69,18 @@ impl State {
         requires rises { Rises self.old.trail }
         requires left { self.old.conflicts < bound }
         requires small { (variable : ℕ) → Names order.now variable → variable < 2 ^ 63 }
-        ensures { IfOk result (λ turned. IsTurn turned self.new (turn_of order.now bound (seen self.old))) }
+        requires watched { IsWatched order.now self.old }
+        ensures turned { IfOk result (λ turned. IsTurn turned self.new (turn_of order.now bound (seen self.old))) }
+        ensures watched { OnOk result (IsWatched order.now self.new) }
     {
-        if let Some(number) = falsified(&self.trail, self.clauses.as_slice()) {
+        if let Some(number) = self.candidates.first_falsified(&self.trail, &self.clauses) {
             let turned = self.conflict(alloc, number, bound)?;
             return Ok(turned);
         }
-        if let Some((number, literal)) = forced(&self.trail, self.clauses.as_slice()) {
+        if let Some((number, literal)) = self.candidates.first_forcing(&self.trail, &self.clauses) {
             let level = self.trail.last_level();
             let reason = Some(number as u64);
-            self.trail.put(Entry {
+            self.put(Entry {
                 literal,
                 level,
                 reason,
@@ -75,7 +95,8 @@ impl State {
     fn conflict(&mut self, alloc: Global, number: usize, bound: u64) -> Result<Turned, AllocError>
         requires clause { (clause : List ℕ) × (slice_get self.old.clauses number ≡ Some clause) }
         requires left { self.old.conflicts < bound }
-        ensures { IfOk result (λ turned. (clause : List ℕ) → slice_get self.old.clauses number ≡ Some clause → IsTurn turned self.new (conflict_of bound (seen self.old) (number, clause))) }
+        ensures turned { IfOk result (λ turned. (clause : List ℕ) → slice_get self.old.clauses number ≡ Some clause → IsTurn turned self.new (conflict_of bound (seen self.old) (number, clause))) }
+        ensures watched { OnOk result ((order : List ℕ) → IsWatched order self.old → IsWatched order self.new) }
     {
         let clause = self.clauses.get(number).copy()?;
         let start = number as u64;
@@ -113,27 +134,75 @@ impl State {
             start,
             steps: learnt.steps,
         })?;
-        self.clauses.push(learnt.clause)?;
+        self.append(alloc, learnt.clause)?;
         self.conflicts += 1;
+        self.look_again()?;
         Ok(Turned::On)
+    }
+
+    // Appends a clause, and lists it.
+    fn append(&mut self, alloc: Global, clause: Clause) -> Result<(), AllocError>
+        ensures appended { OnOk result (self.new.clauses ≡ self.old.clauses ++ clause ∷ []) }
+        ensures kept { OnOk result ((self.new.trail ≡ self.old.trail) × (self.new.log ≡ self.old.log) × (self.new.conflicts ≡ self.old.conflicts)) }
+        ensures listed { OnOk result (((number : ℕ) → IsListed self.old.lists self.old.clauses number) → (number : ℕ) → IsListed self.new.lists self.new.clauses number) }
+    {
+        let number = self.clauses.len() as u64;
+        self.lists.put(alloc, number, clause.as_slice())?;
+        self.clauses.push(clause)?;
+        Ok(())
+    }
+
+    // Looks at all clauses and at the whole order anew.
+    fn look_again(&mut self) -> Result<(), AllocError>
+        ensures kept { OnOk result (seen self.new ≡ seen self.old) }
+        ensures watched { OnOk result ((order : List ℕ) → ((number : ℕ) → IsListed self.old.lists self.old.clauses number) → IsWatched order self.new) }
+    {
+        self.ahead = 0;
+        self.candidates.look_at_all(&self.trail, &self.clauses)?;
+        Ok(())
     }
 
     // Decides on the first variable that is unset, if there is one.
     fn decide(&mut self, order: &[u64]) -> Result<Turned, AllocError>
         requires rises { Rises self.old.trail }
         requires small { (variable : ℕ) → Names order.now variable → variable < 2 ^ 63 }
-        ensures { IfOk result (λ turned. IsTurn turned self.new (decide_of (seen self.old) (unset_of self.old.trail order.now))) }
+        requires watched { IsWatched order.now self.old }
+        ensures turned { IfOk result (λ turned. IsTurn turned self.new (decide_of (seen self.old) (unset_of self.old.trail order.now))) }
+        ensures watched { OnOk result (IsWatched order.now self.new) }
     {
-        let Some(variable) = unset(&self.trail, order) else {
+        let Some(variable) = unset(&self.trail, order, &mut self.ahead) else {
             return Ok(Turned::Model);
         };
         let literal = 2 * variable + 1;
         let level = self.trail.next_level();
-        self.trail.put(Entry {
+        self.put(Entry {
             literal,
             level,
             reason: None,
         })?;
         Ok(Turned::On)
+    }
+
+    // Puts the entry of a variable that has none on the trail, and looks at the clauses that this may touch.
+    fn put(&mut self, entry: Entry) -> Result<(), AllocError>
+        requires { entry_of self.old.trail (variable_of entry.literal) ≡ None }
+        ensures put { OnOk result (puts_of (seen self.old) entry ≡ GoesOn (seen self.new)) }
+        ensures watched { OnOk result ((order : List ℕ) → IsWatched order self.old → IsWatched order self.new) }
+    {
+        self.trail.put(entry)?;
+        let numbers = self.lists.of(opposite_of(entry.literal));
+        self.candidates
+            .look_at_these(&self.trail, &self.clauses, numbers)?;
+        Ok(())
+    }
+}
+
+fn opposite_of(literal: u64) -> u64
+    ensures { result ≡ opposite literal }
+{
+    if literal % 2 == 0 {
+        literal + 1
+    } else {
+        literal - 1
     }
 }

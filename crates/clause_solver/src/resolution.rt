@@ -1,17 +1,20 @@
 // Resolution of two clauses, with the literals in order.
-ghost use Rattle.std.specs.Prelude.{◌≡◌, ◌++◌, ◌&&◌, ℕ, List, IfOk, OnOk};
+ghost use Rattle.std.specs.Prelude.{◌≡◌, ◌++◌, ◌&&◌, ℕ, List, IsTrue, IfOk, OnOk};
 ghost use Rattle.refute_check.specs.Resolution.{has, without, each_once, joined as joined_of, resolvent as resolvent_of};
 
 use refute_check::{Clause, Items};
 use std::alloc::{AllocError, Global};
 
-/// What the two clauses resolve to on the variable, or None where they don't.
+/// What the two clauses resolve to on the variable, or None where they don't. It is faster where the first is known to
+/// name each literal once.
 pub fn resolvent(
     alloc: Global,
     first: &[u64],
     second: &[u64],
     variable: u64,
+    once: bool,
 ) -> Result<Option<Clause>, AllocError>
+    requires { IsTrue once → each_once first.now ≡ first.now }
     ensures { IfOk result (λ found. found ≡ resolvent_of first.now second.now variable) }
 {
     if variable > u64::MAX / 2 {
@@ -20,11 +23,11 @@ pub fn resolvent(
     let positive = 2 * variable;
     let negative = positive + 1;
     if fit(first, positive, second, negative) {
-        let clause = joined(alloc, positive, negative, first, second)?;
+        let clause = joined(alloc, positive, negative, first, second, once)?;
         return Ok(Some(clause));
     }
     if fit(first, negative, second, positive) {
-        let clause = joined(alloc, negative, positive, first, second)?;
+        let clause = joined(alloc, negative, positive, first, second, once)?;
         return Ok(Some(clause));
     }
     Ok(None)
@@ -49,13 +52,41 @@ fn joined(
     negation: u64,
     first: &[u64],
     second: &[u64],
+    once: bool,
 ) -> Result<Clause, AllocError>
+    requires { IsTrue once → each_once first.now ≡ first.now }
     ensures { IfOk result (λ clause. clause ≡ joined_of literal negation first.now second.now) }
 {
-    let mut clause = Items::new(Vec::new(alloc));
-    put_others(&mut clause, first, literal)?;
+    let mut clause = others(alloc, first, literal, once)?;
     put_others(&mut clause, second, negation)?;
     Ok(clause)
+}
+
+// The literals but one, each once.
+fn others(alloc: Global, clause: &[u64], literal: u64, once: bool) -> Result<Clause, AllocError>
+    requires { IsTrue once → each_once clause.now ≡ clause.now }
+    ensures { IfOk result (λ others. others ≡ each_once (without literal clause.now)) }
+{
+    if once {
+        let others = copy_others(alloc, clause, literal)?;
+        return Ok(others);
+    }
+    let mut others = Items::new(Vec::new(alloc));
+    put_others(&mut others, clause, literal)?;
+    Ok(others)
+}
+
+// The literals but one, as they are.
+fn copy_others(alloc: Global, clause: &[u64], literal: u64) -> Result<Clause, AllocError>
+    ensures { IfOk result (λ others. others ≡ without literal clause.now) }
+{
+    let mut others = Items::new(Vec::new(alloc));
+    for other in clause {
+        if *other != literal {
+            others.push(*other)?;
+        }
+    }
+    Ok(others)
 }
 
 // Puts in the literals but one, where they aren't there yet.

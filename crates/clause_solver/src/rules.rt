@@ -1,10 +1,11 @@
 // What the clauses are on a trail.
-ghost use Rattle.std.specs.Prelude.{◌≡◌, ℕ, List, Some, None, MatchOption, slice_get};
-ghost use Rattle.refute_check.specs.Machine.{status as status_of, falsified as falsified_of, forced as forced_of, unset as unset_of};
+ghost use Rattle.std.specs.Prelude.{◌≡◌, slice_get, take};
+ghost use Rattle.refute_check.specs.Machine.{status as status_of, unset as unset_of};
 ghost use Rattle.clause_solver.specs.Seen.{status_seen};
+ghost use Rattle.clause_solver.specs.Watching.{status_at, AllSet};
 
 use crate::trail::{Trail, Value};
-use refute_check::Clause;
+use refute_check::{Clause, Items};
 
 /// What a clause is on a trail.
 #[derive(Clone, Copy, Debug, PartialEq, Eq)]
@@ -39,38 +40,28 @@ pub fn clause_status(trail: &Trail, clause: &[u64]) -> Status
     }
 }
 
-/// The number of the first clause that is falsified.
-pub fn falsified(trail: &Trail, clauses: &[Clause]) -> Option<usize>
-    ensures { MatchOption result (falsified_of trail.now 0 clauses.now ≡ None)
-        (λ number. (clause : List ℕ) × (slice_get clauses.now number ≡ Some clause) × (falsified_of trail.now 0 clauses.now ≡ Some (number, clause))) }
+/// What the clause of this number is, idle where there is none.
+pub fn numbered_status(trail: &Trail, clauses: &Items<Clause>, number: u64) -> Status
+    ensures { status_seen result ≡ status_at trail.now (slice_get clauses.now number) }
 {
-    for (number, clause) in clauses.iter().enumerate() {
-        if let Status::Falsified = clause_status(trail, clause.as_slice()) {
-            return Some(number);
-        }
+    let number = number as usize;
+    if number >= clauses.len() {
+        return Status::Idle;
     }
-    None
+    clause_status(trail, clauses.get(number).as_slice())
 }
 
-/// The number of the first clause that forces a literal, and the literal.
-pub fn forced(trail: &Trail, clauses: &[Clause]) -> Option<(usize, u64)>
-    ensures { result ≡ forced_of trail.now 0 clauses.now }
+/// The first variable of the order that is unset. So many variables were known to be set.
+pub fn unset(trail: &Trail, order: &[u64], ahead: &mut usize) -> Option<u64>
+    requires { AllSet trail.now (take ahead.old order.now) }
+    ensures set { AllSet trail.now (take ahead.new order.now) }
+    ensures first { result ≡ unset_of trail.now order.now }
 {
-    for (reason, clause) in clauses.iter().enumerate() {
-        if let Status::Forces(literal) = clause_status(trail, clause.as_slice()) {
-            return Some((reason, literal));
-        }
-    }
-    None
-}
-
-/// The first variable of the order that is unset.
-pub fn unset(trail: &Trail, order: &[u64]) -> Option<u64>
-    ensures { result ≡ unset_of trail.now order.now }
-{
-    for variable in order {
-        if trail.entry(*variable).is_none() {
-            return Some(*variable);
+    while *ahead < order.len() {
+        let variable = order[*ahead];
+        match trail.entry(variable) {
+            None => return Some(variable),
+            Some(_) => *ahead += 1,
         }
     }
     None

@@ -33,7 +33,7 @@ fn run(alloc: Global, cnf: &Cnf, conflicts: u64) -> Result<Answer, AllocError>
 {
     let clauses = cnf.clauses.copy()?;
     let order = cnf.order.as_slice();
-    let mut state = State::start(alloc, clauses);
+    let mut state = State::start(alloc, clauses)?;
     'turns: loop {
         match state.turn(alloc, order, conflicts)? {
             Turned::On => {}

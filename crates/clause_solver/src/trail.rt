@@ -1,7 +1,8 @@
 // The trail of literals that are true.
-ghost use Rattle.std.specs.Prelude.{◌≡◌, ◌<◌, ◌+◌, ◌^◌, [], ◌∷◌, ℕ, length, slice_get, Some, OnOk, OnErr};
+ghost use Rattle.std.specs.Prelude.{◌≡◌, ◌<◌, ◌+◌, ◌^◌, [], ◌∷◌, ℕ, length, slice_get, slice_index, Some, None, OnOk, OnErr};
 ghost use Rattle.refute_check.specs.Machine.{Entry as OneEntry, entry_of, value_of, level_now, level_of, assigned, has_decision as decided_on, cut as cut_to};
 ghost use Rattle.refute_check.specs.Rising.{Rises};
+ghost use Rattle.refute_check.specs.Clauses.{variable_of};
 ghost use Rattle.clause_solver.specs.Seen.{value_seen};
 
 use std::alloc::{AllocError, Global};
@@ -35,8 +36,6 @@ impl Clone for Entry {
 impl Copy for Entry {}
 
 impl Entry {
-    ghost use Rattle.refute_check.specs.Clauses.{variable_of};
-
     /// The variable of the literal.
     pub fn variable(&self) -> u64
         ensures { result ≡ variable_of self.now.literal }
@@ -57,6 +56,8 @@ pub enum Value {
 #[derive(Drop)]
 pub struct Trail {
     entries: Vec<Entry>,
+    // For each variable one more than the place of its entry, or 0 where it has none.
+    places: Vec<usize>,
 }
 
 impl Model for Trail {
@@ -65,7 +66,11 @@ impl Model for Trail {
 
     ghost Value = { List Seen };
 
+    ghost use Rattle.clause_solver.specs.Places.{IsPlaced};
+
     ghost view = { λ t. reverse t.entries.items };
+
+    ghost invariant = { λ t. IsPlaced (reverse t.entries.items) t.places.items };
 }
 
 impl Trail {
@@ -74,6 +79,7 @@ impl Trail {
     {
         Trail {
             entries: Vec::new(alloc),
+            places: Vec::new(alloc),
         }
     }
 
@@ -92,11 +98,16 @@ impl Trail {
         self.entries[self.entries.len() - 1 - after]
     }
 
+    /// Puts in the entry of a variable that has none.
     pub fn put(&mut self, entry: Entry) -> Result<(), AllocError>
+        requires { entry_of self.old (variable_of entry.literal) ≡ None }
         ensures ok { OnOk result (self.new ≡ entry ∷ self.old) }
         ensures err { OnErr result (self.new ≡ self.old) }
     {
+        let variable = (entry.literal / 2) as usize;
+        make_room(&mut self.places, variable)?;
         self.entries.push(entry)?;
+        self.places[variable] = self.entries.len();
         Ok(())
     }
 
@@ -104,13 +115,11 @@ impl Trail {
     pub fn entry(&self, variable: u64) -> Option<Entry>
         ensures { result ≡ entry_of self.now variable }
     {
-        let mut found = None;
-        for entry in self.entries.as_slice() {
-            if entry.literal / 2 == variable {
-                found = Some(*entry);
-            }
+        let place = place_in(&self.places, variable as usize);
+        if place == 0 {
+            return None;
         }
-        found
+        Some(self.entries[place - 1])
     }
 
     pub fn value(&self, literal: u64) -> Value
@@ -192,6 +201,31 @@ impl Trail {
         requires { 0 < length self.old }
         ensures { (latest : OneEntry) × (self.old ≡ latest ∷ self.new) }
     {
-        let _ = self.entries.pop();
+        if let Some(entry) = self.entries.pop() {
+            self.places[(entry.literal / 2) as usize] = 0;
+        }
     }
+}
+
+// The place that the table has for a variable, 0 where it has none.
+fn place_in(places: &Vec<usize>, variable: usize) -> usize
+    ensures { result ≡ slice_index places.now.items variable }
+{
+    if variable < places.len() {
+        places[variable]
+    } else {
+        0
+    }
+}
+
+// Makes the table long enough for a variable.
+fn make_room(places: &mut Vec<usize>, variable: usize) -> Result<(), AllocError>
+    requires { variable < 2 ^ 63 }
+    ensures long { OnOk result (variable < length places.new.items) }
+    ensures kept { (other : ℕ) → slice_index places.new.items other ≡ slice_index places.old.items other }
+{
+    if variable >= places.len() {
+        places.resize(variable + 1, 0)?;
+    }
+    Ok(())
 }

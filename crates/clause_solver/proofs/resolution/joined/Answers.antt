@@ -1,6 +1,5 @@
-use Rattle.std.proofs.Common.{[], ◌∙◌}
 use Rattle.refute_check.specs.Resolution.{without}
 use Rattle.clause_solver.proofs.resolution.joined.Goals as goal
 
 pub returns : goal.returns
-returns c = c.in_ok-put_others-2.ensures (without c.args.literal c.args.first.now) (c.in_ok-put_others.ensures [] (c.new-clause.ensures ∙ c.new.ensures.items))
+returns c = c.in_ok-put_others.ensures (without c.args.literal c.args.first.now) c.in_ok-clause.ensures

@@ -1,6 +1,9 @@
-use Rattle.std.proofs.Common.{◌≡◌, drop}
-use Rattle.refute_check.specs.Machine.{unset}
+use Rattle.std.proofs.Common.{◌-◌, length, take}
+use Rattle.clause_solver.specs.Watching.{AllSet}
 use Rattle.clause_solver.proofs.rules.unset.Given as goal
 
-abbrev pub invariant-loop-variable : goal.invariant-loop-variable
-invariant-loop-variable l = unset l.trail l.order ≡ unset l.trail (drop l.variable-index l.order)
+abbrev pub invariant-loop-ahead : goal.invariant-loop-ahead
+invariant-loop-ahead l = AllSet l.trail (take l.ahead l.order)
+
+abbrev pub decreases-loop-ahead : goal.decreases-loop-ahead
+decreases-loop-ahead l = length l.order - l.ahead
