@@ -1,11 +1,15 @@
 -- What the machine's answers on the formula of conditions say of inputs.
-use Rattle.std.proofs.Common.{◌≡◌, ℕ, zero, suc, ◌+◌, ◌-◌, ◌<◌, ◌≤◌, Bool, List, [], ◌∷◌, ◌++◌, length, map, take, refl, sym, ap, ◌∙◌, subst, arith, All, ◌⊎◌, inl, inr, Option, Some, None, length-append, get_or, ap₂, append_assoc}
+use Rattle.std.proofs.Common.{◌≡◌, ℕ, zero, suc, ◌+◌, ◌-◌, ◌<◌, ◌≤◌, Bool, List, [], ◌∷◌, ◌++◌, length, map, take, refl, sym, ap, ◌∙◌, subst, arith, All, ◌⊎◌, inl, inr, Option, Some, None, Result, Err, IsOkUnless, length-append, get_or, ap₂, append_assoc}
 use Rattle.bv_terms.specs.Terms.{Term, value_of}
 use Rattle.refute_check.specs.Clauses.{IsUnsatisfiable}
 use Rattle.refute_check.specs.Machine.{Trail, assigned}
 use Rattle.refute_check.specs.Orders.{Names}
 use Rattle.refute_check.specs.declared.formulas.Cnf.{Cnf}
+use Rattle.refute_check.specs.Logs.{IsAccepted}
 use Rattle.refute_check.specs.declared.logs.Chain.{Chain}
+use Rattle.refute_check.specs.declared.refutation.Refutation.{Refutation}
+use Rattle.refute_check.specs.declared.checker.AcceptBad.{AcceptBad}
+use Rattle.refute_check.specs.declared.checker.AcceptBad.TheVariants.{Bad, NoMemory}
 use Rattle.refute_check.proofs.Soundness.{accepted_refutes}
 use Rattle.clause_solver.specs.Answers.{IsFormula, values_of, assignment_of, IsAnswer, IsRight as IsRightAnswer}
 use Rattle.clause_solver.specs.declared.answer.Answer.{Answer}
@@ -186,6 +190,15 @@ module _ (conditions : List Condition) (draws : List Bool) (first : Option Term)
 
   pub not_refuted : (answer : Answer) (log : List Chain) → IsRightAnswer cnf answer → answer ≡ Refuted log → SomeMeets conditions draws → ⊥
   not_refuted answer log r e some = none_do (accepted_refutes cnf.clauses log (subst (λ (x : Answer). IsRightAnswer cnf x) e r)) some
+
+  -- a log that the machine gave is not refused
+  pub not_bad : (answer : Answer) (log : List Chain) (result : Result Refutation AcceptBad) (bad : AcceptBad) (number : ℕ) → IsRightAnswer cnf answer → answer ≡ Refuted log
+      → (IsAccepted cnf.clauses log → IsOkUnless result NoMemory) → result ≡ Err bad → bad ≡ Bad number → ⊥
+  not_bad answer log result bad number r e accepts refused kind =
+      apart number (sym kind ∙ subst (λ (x : Result Refutation AcceptBad). IsOkUnless x NoMemory) refused (accepts (subst (λ (x : Answer). IsRightAnswer cnf x) e r)))
+    where
+      apart : (number : ℕ) → Bad number ≡ NoMemory → ⊥
+      apart number e = cc
 
   -- the variables that are decided first are of the model
   pub decided_within : (bound count : ℕ) (answer : Answer) (values slice : List Bool) (order : List ℕ) → IsAnswer cnf bound answer → answer ≡ Model values → slice ≡ values → order ≡ cnf.order

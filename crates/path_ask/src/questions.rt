@@ -11,7 +11,7 @@ use crate::verdicts::{Pick, Verdict};
 use bit_blast::clauses;
 use bv_terms::{Cond, Graph, TermId};
 use clause_solver::{Answer, solve};
-use refute_check::accept;
+use refute_check::{AcceptBad, accept};
 use std::alloc::{AllocError, Global};
 
 /// How many bits a term has whose least value is asked for.
@@ -44,7 +44,8 @@ pub fn other_side(
         }
         Answer::Refuted(log) => match accept(alloc, cnf, log) {
             Ok(refutation) => Ok(Verdict::Dropped(refutation)),
-            Err(_) => Err(AllocError),
+            Err(AcceptBad::NoMemory) => Err(AllocError),
+            Err(AcceptBad::Bad(_)) => unreachable!(),
         },
         Answer::Spent => Ok(Verdict::Undecided),
     }
