@@ -2,10 +2,12 @@
 ghost use Rattle.std.specs.Prelude.{◌≡◌, IsTrue, IfOk, IfSome, All};
 ghost use Rattle.int_ops.specs.Operators.{is_unary, is_binary};
 ghost use Rattle.wasm_rules.specs.Words.{CanJoin, bits_where};
+ghost use Rattle.bv_terms.specs.declared.words.Word.TheVariants.{Term as Numbered};
+ghost use Rattle.bv_terms.specs.Graphs.{Holds};
 ghost use Rattle.term_rows.specs.Desks.{IsWord, IsSome, HasWidths};
 
 use crate::forms::text_of;
-use bv_terms::{Graph, Marks, Word, value_at};
+use bv_terms::{Graph, Marks, TermId, Word, value_at};
 use int_ops::{Operation, Operator, operator};
 use std::alloc::{AllocError, Global};
 use std::marker::Model;
@@ -244,6 +246,38 @@ impl Desk {
         };
         let mut marks = Marks::new(self.alloc, self.graph.terms())?;
         Ok(Some(value_at(&self.graph, word, input, &mut marks)))
+    }
+
+    /// The graph.
+    pub fn graph(&self) -> &Graph
+        ensures { result.now ≡ self.now }
+    {
+        &self.graph
+    }
+
+    /// The term at a place, where it is one.
+    pub fn term(&self, place: u64) -> Option<TermId>
+        ensures { IfSome result (λ t. Holds self.now (Numbered t)) }
+    {
+        match self.any(place)? {
+            Word::Term(t) => Some(t),
+            Word::Num(_) => None,
+        }
+    }
+
+    /// The term of 32 bits at a place, where it is one.
+    pub fn narrow(&self, place: u64) -> Option<TermId>
+        ensures { IfSome result (λ t. IsWord self.now 32 (Numbered t)) }
+    {
+        match self.word(place, 32)? {
+            Word::Term(t) => Some(t),
+            Word::Num(_) => None,
+        }
+    }
+
+    /// How many words there are.
+    pub fn words(&self) -> u64 {
+        self.entries.len() as u64
     }
 
     /// The number that the word at a place is, where it is one.

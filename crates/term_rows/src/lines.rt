@@ -1,4 +1,5 @@
 // What a line asks of a desk.
+use crate::asks::{ask_line, formula_line, log_line, pick_line};
 use crate::desk::Desk;
 use crate::forms::word_text;
 use crate::words::{Words, numbers, words_of};
@@ -83,6 +84,7 @@ fn node(
 ) -> Result<Option<Word>, AllocError> {
     match verb {
         "un" => un(desk, words),
+        "again" => again(desk, words),
         "bin" => bin(desk, words),
         "choose32" => choose(desk, words, false),
         "choose64" => choose(desk, words, true),
@@ -151,6 +153,26 @@ fn counted(alloc: Global, desk: &Desk) -> Result<String, AllocError> {
     format!(in alloc; "terms {count}")
 }
 
+// A unary operator so many times, on the word at a place.
+fn again(desk: &mut Desk, words: &mut Words) -> Result<Option<Word>, AllocError> {
+    let Some(count) = words.number() else {
+        return Ok(None);
+    };
+    let Some(op) = words.opcode() else {
+        return Ok(None);
+    };
+    let Some(a) = words.number() else {
+        return Ok(None);
+    };
+    let mut at = a;
+    let mut last = None;
+    for _turn in 0..count {
+        last = desk.un(op, at)?;
+        at = desk.words().saturating_sub(1);
+    }
+    Ok(last)
+}
+
 /// The answer to the line.
 pub fn answer(alloc: Global, desk: &mut Desk, line: &str) -> Result<String, AllocError> {
     let mut words = words_of(alloc, line)?;
@@ -162,6 +184,10 @@ pub fn answer(alloc: Global, desk: &mut Desk, line: &str) -> Result<String, Allo
         "form" => form(alloc, desk, &mut words),
         "number" => number(alloc, desk, &mut words),
         "count" => counted(alloc, desk),
+        "formula" => formula_line(alloc, desk, &mut words),
+        "ask" => ask_line(alloc, desk, &mut words),
+        "pick" => pick_line(alloc, desk, &mut words),
+        "log" => log_line(alloc, desk, &mut words),
         _ => match made(alloc, desk, &mut words, verb)? {
             Some(word) => word_text(alloc, word),
             None => refused(alloc),
