@@ -1,8 +1,9 @@
 #!/usr/bin/env python3
 """run.py PROGRAM
 
-Runs PROGRAM on each example: a folder with the module (`module.wasm`), the words of the command, one a line (`words`), and
-what it writes (`report`). Prints a line for each example that differs, and `N passed, M failed`.
+Runs PROGRAM on each example: a folder with the module (`module.wasm`, and beside it, for readers, its text, `module.wat`), the
+words of the command, one a line (`words`), and what it writes (`report`). Prints a line for each example that differs, and
+`N passed, M failed`.
 """
 
 import os

@@ -1,0 +1,15 @@
+;; The midpoint of two numbers as many binary searches have it: the sum may overflow, and then the midpoint is no number between them.
+(module
+  (import "symbolic" "i32_symbol" (func $symbol (result i32)))
+  (import "symbolic" "assume" (func $assume (param i32)))
+  (import "symbolic" "assert" (func $assert (param i32)))
+  (func (export "midpoint") (result i32)
+    (local $low i32) (local $high i32) (local $middle i32)
+    (local.set $low (call $symbol))
+    (local.set $high (call $symbol))
+    (call $assume (i32.le_s (i32.const 0) (local.get $low)))
+    (call $assume (i32.le_s (local.get $low) (local.get $high)))
+    (local.set $middle (i32.div_s (i32.add (local.get $low) (local.get $high)) (i32.const 2)))
+    (call $assert (i32.le_s (local.get $low) (local.get $middle)))
+    (call $assert (i32.le_s (local.get $middle) (local.get $high)))
+    (local.get $middle)))
