@@ -1,6 +1,6 @@
 -- Lists of cells: their parts, and what is written over them.
-use Rattle.std.proofs.Common.{◌≡◌, ℕ, ◌+◌, ◌≤◌, ◌<◌, List, [], ◌∷◌, ◌++◌, length, take, drop, map, set, All, Some, slice_get, Bool, ⊎_elim, refl, sym, ap, ap₂, ◌∙◌, arith}
-use Rattle.std.proofs.lemmas.List.{append-nil, map-append, take-map, drop-map, length-map, length-append, length-drop, length-take-le, take-append-drop, get_or-drop, take_more, take_more_set}
+use Rattle.std.proofs.Common.{◌≡◌, ℕ, ◌+◌, ◌≤◌, ◌<◌, List, [], ◌∷◌, ◌++◌, length, take, drop, map, set, get_or, All, Some, slice_get, Bool, ⊎_elim, refl, sym, ap, ap₂, ◌∙◌, arith}
+use Rattle.std.proofs.lemmas.List.{append-nil, map-append, take-map, drop-map, length-map, length-append, length-drop, length-take-le, take-append-drop, get_or-drop, append_assoc, drop_more, set_at, take_more, take_more_set}
 use Rattle.std.proofs.lemmas.List.Elements.{All-append, All-take, All-drop, All-head, All-tail, All-weaker}
 use Rattle.std.proofs.lemmas.Option.{get_or_from_slice_get}
 use Rattle.wasm_rules.specs.declared.accesses.Access.{Access}
@@ -75,6 +75,23 @@ read_more cells out at i w within below got so_far =
     take_more_set out i w below
     ∙ ap₂ (λ xs x. xs ++ x ∷ []) so_far (sym (get_or_from_slice_get cells (at + i) w w got) ∙ sym (get_or-drop at cells i w))
     ∙ sym (take_more (drop at cells) i w (omega (arith, within, below, length-drop at cells)))
+
+-- ---- one word more is written
+pub written_more : {X : Type 0} → (at i : ℕ) (words list : List X) (d : X) → at + length words ≤ length list → i < length words
+    → set (written at (take i words) list) (at + i) (get_or words i d) ≡ written at (take (i + 1) words) list
+written_more at i words list d within below =
+    let w = get_or words i d in
+    let so_far = take at list ++ take i words in
+    let counted : length (take i words) ≡ i = length-take-le i words (omega (arith, below)) in
+    let long : length so_far ≡ at + i = omega (arith, counted, length-append (take at list) (take i words), length-take-le at list (omega (arith, within))) in
+    let next : drop (at + length (take i words)) list ≡ get_or list (at + i) d ∷ drop (at + i + 1) list =
+    ap (λ n. drop (at + n) list) counted ∙ drop_more list (at + i) d (omega (arith, within, below)) in
+    ap (λ rest. set (so_far ++ rest) (at + i) w) next
+    ∙ set_at so_far (get_or list (at + i) d) (drop (at + i + 1) list) w (at + i) long
+    ∙ sym (append_assoc so_far (w ∷ []) (drop (at + i + 1) list))
+    ∙ ap₂ (λ xs n. xs ++ drop n list)
+    (append_assoc (take at list) (take i words) (w ∷ []) ∙ ap (λ xs. take at list ++ xs) (sym (take_more words i d below)))
+    (omega (arith, counted, length-take-le (i + 1) words (omega (arith, below))))
 
 -- ---- how many bytes
 

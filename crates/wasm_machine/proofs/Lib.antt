@@ -1,5 +1,4 @@
 pub mod CellLemmas
-pub mod ByteLemmas
 pub mod Lists
 pub mod Steps
 pub mod StartLemmas

@@ -21,7 +21,7 @@ use Rattle.wasm_machine.specs.Acts.{Sane}
 use Rattle.wasm_machine.specs.Starts.{plain, Parts, store_with, first_state, AreBytes, FromBytes}
 use Rattle.wasm_machine.specs.Values.{reference, value, ValueHeld, ValuesHeld}
 use Rattle.wasm_machine.proofs.Lists.{all-append, all-take, all-drop}
-use Rattle.wasm_machine.proofs.StartLemmas.{datas_dropped, ElemsSoFar, next_elem, DatasSoFar, next_data, WordsSoFar, values_kept, get_map, set_map, written_map, long_map, append_map, BytesSoFar, bytes_more}
+use Rattle.wasm_machine.proofs.StartLemmas.{datas_dropped, ElemsSoFar, next_elem, DatasSoFar, next_data, WordsSoFar, values_kept, get_map, set_map, written_map, long_map, append_map, PagesSoFar, pages_more}
 
 -- ---- one segment
 
@@ -232,12 +232,12 @@ sane_first H a p entry operands globals o g = record {
   globals = g;
 }
 
-pub bytes_next : (m : Module) (i bytes : ℕ) (ls : List Limits) (d : Limits) → ls ≡ m.memories → i < length ls → BytesSoFar m i bytes → AreAtMost most_pages m.memories →
-    BytesSoFar m (i + 1) (bytes + (slice_index_or ls i d).min * 65536)
-bytes_next m i bytes ls d same lt so small =
+pub pages_next : (m : Module) (i pages : ℕ) (ls : List Limits) (d : Limits) → ls ≡ m.memories → i < length ls → PagesSoFar m i pages → AreAtMost most_pages m.memories →
+    PagesSoFar m (i + 1) (pages + (slice_index_or ls i d).min)
+pages_next m i pages ls d same lt so small =
     let within : i < length m.memories = omega (arith, lt, ap (λ l. length l) same) in
-    subst (λ l. BytesSoFar m (i + 1) (bytes + (slice_index_or l i d).min * 65536)) (sym same)
-    (bytes_more m i bytes (slice_index_or m.memories i d) so (get_default m.memories i d within) (small i d within))
+    subst (λ l. PagesSoFar m (i + 1) (pages + (slice_index_or l i d).min)) (sym same)
+    (pages_more m i pages (slice_index_or m.memories i d) so (get_default m.memories i d within) (small i d within))
 
 -- ---- a slice that is written whole
 

@@ -145,11 +145,11 @@ pub record WordsSoFar {A V M : Type 0} (H : A → V → Type 0) (means : A → V
   pub held : ValuesHeld (H new) words
   pub meant : map (value (means new)) words ≡ values_image K.number (map plain (take i values))
 
--- ---- bytes of the memory
+-- ---- pages of the memory
 
-pub record BytesSoFar (m : Module) (i bytes : ℕ) : Type 0 where
-  pub few : bytes ≤ i * 67108864
-  pub same : replicate {A = ℕ} bytes 0 ≡ flat_map (λ limits. replicate {A = ℕ} (limits.min * page_bytes) 0) (take i m.memories)
+pub record PagesSoFar (m : Module) (i pages : ℕ) : Type 0 where
+  pub few : pages ≤ i * 1024
+  pub same : replicate {A = ℕ} (pages * page_bytes) 0 ≡ flat_map (λ limits. replicate {A = ℕ} (limits.min * page_bytes) 0) (take i m.memories)
 
 -- ---- the first configuration
 
@@ -299,17 +299,21 @@ has_segments m p elems dropped = record {
     replicated zero = refl
     replicated (suc n) = ap suc (replicated n)
 
--- ---- bytes of the memory, one more
+-- ---- pages of the memory, of one more
 
-pub bytes_more : (m : Module) (i bytes : ℕ) (l : Limits) → BytesSoFar m i bytes → slice_get m.memories i ≡ Some l → l.min ≤ 1024 → BytesSoFar m (i + 1) (bytes + l.min * 65536)
-bytes_more m i bytes l so there small = record {
+pub pages_more : (m : Module) (i pages : ℕ) (l : Limits) → PagesSoFar m i pages → slice_get m.memories i ≡ Some l → l.min ≤ 1024 → PagesSoFar m (i + 1) (pages + l.min)
+pages_more m i pages l so there small = record {
   few = omega (arith, so.few, small);
   same =
-      appended bytes (l.min * 65536)
+      ap (λ k. replicate {A = ℕ} k 0) together
+      ∙ appended (pages * page_bytes) (l.min * page_bytes)
       ∙ ap (λ xs. xs ++ replicate {A = ℕ} (l.min * page_bytes) 0) so.same
       ∙ sym (ap (flat_map (λ limits. replicate {A = ℕ} (limits.min * page_bytes) 0)) (take_next m.memories i l there) ∙ snoc (take i m.memories));
 }
   where
+    together : (pages + l.min) * page_bytes ≡ pages * page_bytes + l.min * page_bytes
+    together = omega arith
+
     appended : (a b : ℕ) → replicate {A = ℕ} (a + b) 0 ≡ replicate {A = ℕ} a 0 ++ replicate {A = ℕ} b 0
     appended zero b = let e : 0 + b ≡ b = omega arith in rw e refl
     appended (suc a) b = let e : suc a + b ≡ suc (a + b) = omega arith in rw e (ap (λ xs. 0 ∷ xs) (appended a b))

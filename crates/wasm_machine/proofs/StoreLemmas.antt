@@ -7,7 +7,7 @@ use Rattle.wasm_ast.specs.declared.modules.Segment.{Segment}
 use Rattle.wasm_reduction.specs.Combinators.{written, part}
 use Rattle.wasm_machine.specs.Configurations.{datas_of}
 use Rattle.wasm_machine.proofs.CellLemmas.{length-part, length-written, written-nothing}
-use Rattle.wasm_machine.proofs.ByteLemmas.{written_more}
+use Rattle.wasm_machine.proofs.CellLemmas.{written_more}
 
 -- ---- one list of several
 

@@ -5,7 +5,6 @@
 #![tactic(auto)]
 
 pub mod branches;
-pub mod bytes;
 pub mod calls;
 pub mod control;
 pub mod machine;

@@ -127,7 +127,7 @@ pub fn memory_grow<A: Algebra, M: Memory<A>>(
         }
         Growth::By(n) => {
             let w = a.constant(pages);
-            memory.grow(n * 65_536)?;
+            memory.grow(n)?;
             s.pass();
             s.replace(1, Value::I32(w));
             Ok(Next::Goes)

@@ -4,6 +4,7 @@ ghost use Rattle.std.specs.Mem.{type_size};
 ghost use Rattle.wasm_rules.specs.Words.{Kept};
 ghost use Rattle.wasm_rules.specs.Accesses.{load_of, store_of, load_bytes, load_bits, store_bits, loaded, stored, store_bytes as stored_bytes};
 ghost use Rattle.wasm_reduction.specs.Combinators.{written, part};
+ghost use Rattle.wasm_reduction.specs.Memories.{page_bytes};
 
 use std::alloc::AllocError;
 use wasm_rules::{Access, Algebra, load_word, store_bytes};
@@ -37,9 +38,9 @@ pub trait Memory<A: Algebra> {
         ensures set { OnOk result (cells self.new ≡ slice_set (cells self.old) at w) }
         ensures refused { OnErr result (cells self.new ≡ cells self.old) };
 
-    /// So many more cells, of the byte 0.
-    fn grow(&mut self, count: u64) -> Result<(), AllocError>
-        ensures grown { OnOk result (cells self.new ≡ cells self.old ++ replicate count (plain 0)) }
+    /// So many more pages, each of 65,536 cells of the byte 0.
+    fn grow(&mut self, pages: u64) -> Result<(), AllocError>
+        ensures grown { OnOk result (cells self.new ≡ cells self.old ++ replicate (pages * page_bytes) (plain 0)) }
         ensures refused { OnErr result (cells self.new ≡ cells self.old) };
 
     /// A word is written to each cell of a range.

@@ -2,12 +2,13 @@
 //
 // A module is instantiated on plain numbers, since its constant expressions hold no other words; what it leaves is then taken
 // over into words of the algebra.
-ghost use Rattle.std.specs.Prelude.{◌≡◌, ◌<◌, ◌≤◌, ◌+◌, ◌^◌, List as Items, ℕ, All, IfOk, IfSome, Some, nat_lt, length, map, replicate, slice_get, option_map};
+ghost use Rattle.std.specs.Prelude.{◌≡◌, ◌<◌, ◌≤◌, ◌+◌, ◌*◌, ◌^◌, List as Items, ℕ, All, IfOk, IfSome, Some, nat_lt, length, map, replicate, slice_get, option_map};
 ghost use Rattle.wasm_ast.specs.declared.modules.Module.{Module as OneModule};
 ghost use Rattle.wasm_ast.specs.declared.modules.Mode.{Mode as OneMode};
 ghost use Rattle.wasm_rules.specs.Words.{Kept};
 ghost use Rattle.wasm_image.specs.Sizes.{AreAtMost, most_pages};
 ghost use Rattle.wasm_reduction.specs.Combinators.{written};
+ghost use Rattle.wasm_reduction.specs.Memories.{page_bytes};
 ghost use Rattle.wasm_reduction.specs.Images.{value_image, values_image};
 ghost use Rattle.wasm_reduction.specs.Instantiation.{constant as constant_of, value_of as value_in, reference_in, offset_in, all_of, first_globals as globals_of, first_elems as elems_of, first_tables as tables_of, first_memory, allocated as allocated_of, start_elem as elem_started, start_elems as elems_started, start_data as data_started, start_datas as datas_started, first_config};
 ghost use Rattle.wasm_reduction.specs.Tables.{null_of};
@@ -489,17 +490,17 @@ fn outermost() -> Frame
     }
 }
 
-/// How many bytes the memory of a module has at the start, each of them 0.
-pub fn memory_bytes(m: &Module) -> u64
+/// How many pages the memory of a module has at the start, each of 65,536 bytes of 0.
+pub fn memory_pages(m: &Module) -> u64
     requires few { length m.now.memories < 2 ^ 32 }
     requires small { AreAtMost most_pages m.now.memories }
-    ensures { first_memory m.now ≡ replicate result 0 }
+    ensures { first_memory m.now ≡ replicate (result * page_bytes) 0 }
 {
-    let mut bytes = 0;
+    let mut pages = 0;
     for limits in m.memories.as_slice() {
-        bytes += limits.min as u64 * 65_536;
+        pages += limits.min as u64;
     }
-    bytes
+    pages
 }
 
 /// How the run of the function `entry` with these arguments begins, with its memory, whose cells have to be the bytes that the

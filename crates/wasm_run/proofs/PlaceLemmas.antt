@@ -1,6 +1,6 @@
 -- Laws of places in a run.
-use Rattle.std.proofs.Common.{◌≡◌, ℕ, zero, suc, ◌+◌, ◌<◌, ◌≤◌, ◌⊎◌, List, [], ◌∷◌, ◌++◌, length, map, refl, sym, ap, ◌∙◌, subst, inl, inr, arith}
-use Rattle.std.specs.Prelude.{Bool, true, false, ◌&&◌, nat_lt, nat_le, if◌then◌else◌, Option, Some, None, option_map}
+use Rattle.std.proofs.Common.{◌≡◌, ℕ, zero, suc, ◌+◌, List, [], ◌∷◌, ◌++◌, length, refl, sym, ap, ◌∙◌, subst, arith}
+use Rattle.std.specs.Prelude.{Bool, true, false, ◌&&◌, nat_lt, nat_le, if◌then◌else◌, Some, option_map}
 use Rattle.wasm_ast.specs.declared.modules.Module.{Module}
 use Rattle.wasm_ast.specs.declared.runs.Draw.{Draw}
 use Rattle.wasm_ast.specs.declared.runs.Outcome.{Outcome}
@@ -9,7 +9,7 @@ use Rattle.wasm_ast.specs.declared.runs.Value.{Value}
 use Rattle.wasm_rules.specs.Words.{Kind, numbers, taken}
 use Rattle.wasm_reduction.specs.Configurations.{Question, Config, End, Next, Goes, Draws, Asks, Ends}
 use Rattle.wasm_reduction.specs.Steps.{step, answered, with_symbol}
-use Rattle.wasm_reduction.specs.Runs.{Trace, Going, Halt, Ended, Bound, Deep, Turned, On, Over, Reply, follow, follow_by, follows, then_follow, started, is_due, most_frames, by_value, answer_of, run_of, Run, runs_at, IsRun, ran_of, draws_from, outcome_of, outcome_of_end}
+use Rattle.wasm_reduction.specs.Runs.{Going, Ended, Bound, Deep, Turned, On, Over, Reply, follow, follow_by, follows, then_follow, started, is_due, most_frames, by_value, answer_of, run_of, runs_at, draws_from, outcome_of_end}
 use Rattle.wasm_run.specs.Bounded.{RunGives}
 use Rattle.wasm_run.specs.Places.{Place, IsFree, IsFit, ComesTo, Settled, IsInOrder, config_at}
 use Rattle.wasm_machine.specs.declared.values.Value.{Value as CodeValue}

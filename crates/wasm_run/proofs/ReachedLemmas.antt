@@ -12,17 +12,17 @@ use Rattle.wasm_ast.specs.declared.runs.Value.{Value as Argument}
 use Rattle.wasm_ast.specs.declared.runs.Value.TheVariants.{I32 as I32Argument, I64 as I64Argument, Func as FuncArgument, Extern as ExternArgument}
 use Rattle.wasm_ast.specs.declared.runs.Draw.{Draw}
 use Rattle.wasm_ast.specs.declared.runs.Outcome.{Outcome}
-use Rattle.wasm_rules.specs.Words.{Kind, numbers, taken, HasNumber, bits_where}
+use Rattle.wasm_rules.specs.Words.{numbers, taken, HasNumber, bits_where}
 use Rattle.wasm_rules.proofs.NumbersLemmas.{numbers-give}
-use Rattle.wasm_reduction.specs.Configurations.{Value, Store, Label, Frame, Config, Question, End, Stuck, Next, Goes, Draws, Asks, Ends}
+use Rattle.wasm_reduction.specs.Configurations.{Store, Label, Frame, Config, Question, End, Stuck, Next, Goes, Draws, Asks, Ends}
 use Rattle.wasm_reduction.specs.Combinators.{cost_under, past}
 use Rattle.wasm_reduction.specs.Control.{finish}
-use Rattle.wasm_reduction.specs.Steps.{act, step, step_code, answered, with_symbol}
+use Rattle.wasm_reduction.specs.Steps.{step, step_code, answered, with_symbol}
 use Rattle.wasm_reduction.specs.Instantiation.{instantiated, invoked, first_config}
 use Rattle.wasm_reduction.specs.Widths.{HasWidths, NextHasWidths}
 use Rattle.wasm_reduction.specs.Runs.{Trace, Going, Deep, Bound, Turned, On, Over, Ended, follow, follow_by, follows, then_follow, started, started_by, no_trace, is_due, most_frames, by_value, answer_of, outcome_of_end, run_of, runs_at}
-use Rattle.wasm_reduction.proofs.Moves.{Legal, most_questions, act-legal}
-use Rattle.wasm_reduction.proofs.Endings.{Ready, Falls, weight, left, most_next, moves-units, step-falls, symbol-same, turn-progress}
+use Rattle.wasm_reduction.proofs.Moves.{Legal, act-legal}
+use Rattle.wasm_reduction.proofs.Endings.{Ready, Falls, weight, left, moves-units, step-falls, symbol-same, turn-progress}
 use Rattle.wasm_reduction.proofs.OneRun.{begins, Begins}
 use Rattle.wasm_reduction.proofs.WideSteps.{step-wide, answered-wide, symbol-wide}
 use Rattle.wasm_reduction.proofs.WideStarts.{code-in-range, first-wide}

@@ -1,11 +1,11 @@
 -- Laws of the machine's state in a run on plain numbers.
-use Rattle.std.proofs.Common.{◌≡◌, ℕ, zero, suc, ◌+◌, ◌^◌, ◌<◌, ◌≤◌, List, [], ◌∷◌, ◌++◌, take, drop, length, map, reverse, refl, sym, ap, ◌∙◌, subst, arith}
+use Rattle.std.proofs.Common.{◌≡◌, ℕ, zero, suc, ◌^◌, ◌<◌, ◌≤◌, List, [], ◌∷◌, drop, length, map, reverse, refl, sym, ap, ◌∙◌, subst, arith}
 use Rattle.std.specs.Prelude.{Bool, true, false, ◌&&◌, nat_lt, nat_le, slice_get, is_some, MatchOption, Option, Some, None}
 use Rattle.std.proofs.lemmas.List.{length-reverse}
 use Rattle.std.proofs.lemmas.Bool.Decides.{nat_tests}
 use Rattle.wasm_ast.specs.declared.instructions.Instr.{Instr}
 use Rattle.wasm_ast.specs.declared.modules.Module.{Module}
-use Rattle.wasm_reduction.specs.Configurations.{Value, Frame, Config}
+use Rattle.wasm_reduction.specs.Configurations.{Value, Frame}
 use Rattle.wasm_reduction.specs.Combinators.{valued as valued_in}
 use Rattle.wasm_reduction.specs.Steps.{step, answered, with_symbol}
 use Rattle.wasm_reduction.specs.Runs.{is_due, most_frames}
@@ -13,7 +13,7 @@ use Rattle.wasm_machine.specs.declared.machine.Label.{Label as CodeLabel}
 use Rattle.wasm_machine.specs.declared.machine.Frame.{Frame as CodeFrame}
 use Rattle.wasm_machine.specs.declared.values.Value.{Value as CodeValue}
 use Rattle.wasm_machine.specs.Acts.{Sane, After, BytesAfter}
-use Rattle.wasm_machine.specs.Configurations.{code_of, frames_of}
+use Rattle.wasm_machine.specs.Configurations.{frames_of}
 use Rattle.wasm_machine.specs.Moves.{pushed, noted}
 use Rattle.wasm_machine.specs.States.{State}
 use Rattle.wasm_machine.specs.Values.{value, valued, ValueHeld}

@@ -1,18 +1,16 @@
 // The bounded run.
-ghost use Rattle.std.specs.Prelude.{◌≡◌, ◌≢◌, [], IfOk, Some};
+ghost use Rattle.std.specs.Prelude.{◌≡◌, ◌≢◌, IfOk, Some};
 ghost use Rattle.wasm_reduction.specs.Runs.{outcome_of_end};
 ghost use Rattle.wasm_machine.specs.Starts.{stop_of};
 ghost use Rattle.wasm_machine.specs.declared.start.Stop.TheVariants.{Stuck};
 ghost use Rattle.wasm_run.specs.Bounded.{CanRun, RunGives};
-ghost use Rattle.wasm_run.specs.Places.{IsAsked, IsInOrder, config_at, Place};
 
-use crate::turns::{Request, turn};
+use crate::bytes::Bytes;
+use crate::turns::{Request, go};
 use std::alloc::{AllocError, Global};
 use wasm_ast::{List, Outcome, Ran, Value};
 use wasm_image::Image;
-use wasm_machine::bytes::Bytes;
-use wasm_machine::machine::Machine;
-use wasm_machine::start::{Begun, Stop, memory_bytes, start};
+use wasm_machine::start::{Begun, Stop, memory_pages, start};
 use wasm_reduction::ranges::{arguments_fit, module_has_numbers};
 use wasm_rules::Numbers;
 use wasm_soundness::laws::runs_are_never_stuck;
@@ -43,7 +41,7 @@ pub fn run(
         steps,
     };
     let mut numbers = Numbers;
-    let mut memory = Bytes::new(alloc, memory_bytes(image.module()))?;
+    let mut memory = Bytes::new(alloc, memory_pages(image.module()))?;
     match start(
         alloc,
         &mut numbers,
@@ -73,30 +71,5 @@ fn stopped(stop: Stop) -> Outcome
     match stop {
         Stop::Traps(cause) => Outcome::Traps(cause),
         Stop::Stuck => unreachable!(),
-    }
-}
-
-// One turn after another, to the end.
-fn go(
-    alloc: Global,
-    request: &Request,
-    numbers: &mut Numbers,
-    s: &mut Machine<u64>,
-    memory: &mut Bytes,
-) -> Result<Ran, AllocError>
-    requires asked { IsAsked request.now.image.now request.now.entry request.now.args.now request.now.steps }
-    requires order { IsInOrder numbers.old s.old memory.old }
-    requires place { Place request.now.image.now request.now.entry request.now.args.now request.now.input.now request.now.steps
-        (config_at request.now.image.now memory.old s.old) [] }
-    ensures { IfOk result (λ ran. RunGives request.now.image.now request.now.entry request.now.args.now request.now.input.now request.now.steps ran) }
-{
-    let mut draws = Vec::new(alloc);
-    'turning: loop {
-        if let Some(outcome) = turn(alloc, request, numbers, s, memory, &mut draws)? {
-            return Ok(Ran {
-                outcome,
-                draws: List::new(draws),
-            });
-        }
     }
 }

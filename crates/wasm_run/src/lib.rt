@@ -5,7 +5,10 @@
 // defined with the reduction.
 #![tactic(auto)]
 
+mod accesses;
 mod bounded;
+mod bytes;
+mod page;
 mod turns;
 
 pub use bounded::run;

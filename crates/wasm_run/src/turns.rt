@@ -1,9 +1,8 @@
-// One turn of a bounded run: the questions of the next instruction, each answered by its number, and then its last step.
-ghost use Rattle.std.specs.Prelude.{◌≡◌, ◌≢◌, ◌++◌, ◌∷◌, [], ◌<◌, ◌^◌, List as Items, ℕ, IfOk, IfSome, IfNone, OnOk, None, Some, ◌&&◌, nat_lt, nat_le, length, map, slice_index};
+// The turns of a bounded run: in each the questions of the next instruction, answered by their numbers, and then its last step.
+ghost use Rattle.std.specs.Prelude.{◌≡◌, ◌≢◌, ◌++◌, ◌∷◌, [], ◌<◌, ◌^◌, List as Items, ℕ, IfOk, OnOk, None, Some, ◌&&◌, nat_lt, nat_le, length, map, slice_index};
 ghost use Rattle.wasm_ast.specs.declared.modules.Module.{Module as OneModule};
 ghost use Rattle.wasm_rules.specs.Words.{HasNumber, taken};
 ghost use Rattle.wasm_image.specs.Hosts.{AreLinked};
-ghost use Rattle.wasm_reduction.proofs.Endings.{weight};
 ghost use Rattle.wasm_reduction.specs.Configurations.{Stuck};
 ghost use Rattle.wasm_reduction.specs.Maps.{ValueHas, ValuesHave};
 ghost use Rattle.wasm_reduction.specs.Runs.{answer_of, is_due as is_due_at, most_frames, outcome_of_end, plain_value};
@@ -14,10 +13,10 @@ ghost use Rattle.wasm_machine.specs.Values.{question as question_of, value as va
 ghost use Rattle.wasm_run.specs.Bounded.{RunGives};
 ghost use Rattle.wasm_run.specs.Places.{IsAsked, IsInOrder, IsInOrderAfter, config_at, told_at, Place, IsFit, Settled};
 
+use crate::bytes::Bytes;
 use std::alloc::{AllocError, Global};
-use wasm_ast::{Draw, List, Module, Outcome, Value};
+use wasm_ast::{Draw, List, Module, Outcome, Ran, Value};
 use wasm_image::Image;
-use wasm_machine::bytes::Bytes;
 use wasm_machine::machine::Machine;
 use wasm_machine::next::{End, Next, Question};
 use wasm_machine::step::step;
@@ -36,44 +35,49 @@ pub struct Request<'a> {
 
 const MOST_FRAMES: usize = 1_024;
 
-/// One turn, with its questions. None where the run goes on, else how it ends.
-pub fn turn(
+/// One turn after another, to the end.
+pub fn go(
     alloc: Global,
     request: &Request,
     numbers: &mut Numbers,
     s: &mut Machine<u64>,
     memory: &mut Bytes,
-    draws: &mut Vec<Draw>,
-) -> Result<Option<Outcome>, AllocError>
+) -> Result<Ran, AllocError>
     requires asked { IsAsked request.now.image.now request.now.entry request.now.args.now request.now.steps }
     requires order { IsInOrder numbers.old s.old memory.old }
     requires place { Place request.now.image.now request.now.entry request.now.args.now request.now.input.now request.now.steps
-        (config_at request.now.image.now memory.old s.old) draws.old.items }
-    ensures order { IfOk result (λ end. IfNone end (IsInOrder numbers.new s.new memory.new)) }
-    ensures place { IfOk result (λ end. IfNone end (Place request.now.image.now request.now.entry request.now.args.now request.now.input.now request.now.steps
-        (config_at request.now.image.now memory.new s.new) draws.new.items)) }
-    ensures lighter { IfOk result (λ end. IfNone end (weight request.now.steps (config_at request.now.image.now memory.new s.new)
-        < weight request.now.steps (config_at request.now.image.now memory.old s.old))) }
-    ensures gives { IfOk result (λ end. IfSome end (λ outcome. RunGives request.now.image.now request.now.entry request.now.args.now request.now.input.now request.now.steps
-        (record { outcome = outcome; draws = draws.new.items }))) }
+        (config_at request.now.image.now memory.old s.old) [] }
+    ensures { IfOk result (λ ran. RunGives request.now.image.now request.now.entry request.now.args.now request.now.input.now request.now.steps ran) }
 {
-    if is_deep(s) {
-        return Ok(Some(Outcome::Deep));
-    }
-    if is_spent(s, request.image.module(), request.steps) {
-        return Ok(Some(Outcome::Bound));
-    }
-    match settle(alloc, request.image, request.steps, numbers, s, memory)? {
-        Next::Goes => Ok(None),
-        Next::Draws(wide) => {
-            draw(s, draws, request.input, wide)?;
-            Ok(None)
+    let mut draws = Vec::new(alloc);
+    'turning: loop {
+        if is_deep(s) {
+            return Ok(Ran {
+                outcome: Outcome::Deep,
+                draws: List::new(draws),
+            });
         }
-        Next::Ends(end) => {
-            let outcome = outcome_of(alloc, end)?;
-            Ok(Some(outcome))
+        if is_spent(s, request.image.module(), request.steps) {
+            return Ok(Ran {
+                outcome: Outcome::Bound,
+                draws: List::new(draws),
+            });
         }
-        Next::Asks(_, _) => unreachable!(),
+        match settle(alloc, request.image, request.steps, numbers, s, memory)? {
+            Next::Goes => continue 'turning,
+            Next::Draws(wide) => {
+                draw(s, &mut draws, request.input, wide)?;
+                continue 'turning;
+            }
+            Next::Ends(end) => {
+                let outcome = outcome_of(alloc, end)?;
+                return Ok(Ran {
+                    outcome,
+                    draws: List::new(draws),
+                });
+            }
+            Next::Asks(_, _) => unreachable!(),
+        }
     }
 }
 
@@ -199,7 +203,7 @@ fn value_of(v: Word<u64>) -> Value
 }
 
 // The outcome of a run that ends.
-pub fn outcome_of(alloc: Global, end: End<u64>) -> Result<Outcome, AllocError>
+fn outcome_of(alloc: Global, end: End<u64>) -> Result<Outcome, AllocError>
     requires widths { EndHasWidths HasNumber (end_of (λ n. n) end) }
     requires goes { end_of (λ n. n) end ≢ Stuck }
     ensures { IfOk result (λ outcome. outcome_of_end (end_of (λ n. n) end) ≡ Some outcome) }

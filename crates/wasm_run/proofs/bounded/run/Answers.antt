@@ -9,8 +9,8 @@ use Rattle.wasm_run.specs.Places.{config_at}
 use Rattle.wasm_run.proofs.ReachedLemmas.{own_are_small, begins_at, ends_at_once, never_begins_stuck, name_functions}
 use Rattle.wasm_run.proofs.bounded.run.Goals as goal
 
-pub memory_bytes-requires-clause-small : goal.memory_bytes-requires-clause-small
-memory_bytes-requires-clause-small c =
+pub memory_pages-requires-clause-small : goal.memory_pages-requires-clause-small
+memory_pages-requires-clause-small c =
     rw c.module-2.ensures.module (own_are_small (λ l. l.min ≤ most_pages) (imported_memories c.args.image.now) c.args.image.now.memories c.requires.ready.fits.memories)
 
 pub go-requires-clause-order : goal.go-requires-clause-order

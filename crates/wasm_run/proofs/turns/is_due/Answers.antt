@@ -1,5 +1,4 @@
-use Rattle.std.proofs.Common.{◌≡◌, ◌≤◌, ℕ, Some, None, Option, length, arith, ap, sym, ◌∙◌, nat_lt}
-use Rattle.wasm_reduction.specs.Runs.{is_due}
+use Rattle.std.proofs.Common.{◌≡◌, ◌≤◌, Some, None, length, arith, ap, sym, ◌∙◌, nat_lt}
 use Rattle.wasm_machine.specs.Configurations.{code_of}
 use Rattle.wasm_run.specs.Places.{config_at}
 use Rattle.wasm_run.proofs.TurnLemmas.{due_by, due_below, depth-is}

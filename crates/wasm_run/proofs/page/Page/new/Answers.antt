@@ -1,0 +1,7 @@
+use Rattle.std.proofs.Common.{◌∙◌, ap}
+use Rattle.wasm_run.specs.Pages.{page_of}
+use Rattle.wasm_run.proofs.ZeroLemmas.{zeros-length}
+use Rattle.wasm_run.proofs.page.Page.new.Goals as goal
+
+pub invariant_of-result : goal.invariant_of-result
+invariant_of-result c = rw c.new.ensures.items zeros-length
