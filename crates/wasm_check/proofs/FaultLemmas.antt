@@ -1,6 +1,7 @@
 -- The first fault of a module, from the first fault of a section.
-use Rattle.std.proofs.Common.{◌≡◌, ℕ, zero, suc, ◌+◌, ◌^◌, ◌<◌, List, [], ◌∷◌, length, get_or, refl, sym, ap, subst, arith}
-use Rattle.std.specs.Prelude.{All, Option, Some, None, MatchOption, slice_get}
+use Rattle.std.proofs.Common.{◌≡◌, ℕ, zero, suc, ◌+◌, ◌^◌, ◌<◌, List, [], ◌∷◌, length, get_or, refl, sym, ap, ◌∙◌, subst, arith}
+use Rattle.std.specs.Prelude.{All, Option, Some, None, MatchOption, slice_get, Bool, true, false, nat_lt}
+use Rattle.std.proofs.lemmas.Bool.Decides.{nat_tests}
 use Rattle.std.proofs.lemmas.Option.{MatchOption-at_some, get_or_from_slice_get, slice_get_within}
 use Rattle.wasm_ast.specs.Shape.{HasShape, FuncHasShape}
 use Rattle.wasm_ast.specs.declared.modules.Func.{Func}
@@ -11,7 +12,7 @@ use Rattle.wasm_check.specs.declared.why.Why.{Why}
 use Rattle.wasm_check.specs.declared.why.Why.TheVariants.{Code as InCode}
 use Rattle.wasm_check.specs.Contexts.{imported_funcs}
 use Rattle.wasm_check.specs.Faults.{section_id, ValidBelow, BodyFailsAt, FirstFault}
-use Rattle.wasm_check.specs.Modules.{EntryIsValid, SectionIsValid, IsValid}
+use Rattle.wasm_check.specs.Modules.{BodyIsValid, EntryIsValid, SectionIsValid, IsValid}
 use Rattle.wasm_check.specs.Spaces.{section_size, IsFieldFault, FailsIn}
 use Rattle.wasm_check.proofs.ModuleLemmas.{same-section, valid_below-more, all_below, fails-invalid}
 
@@ -45,6 +46,23 @@ code-first m k place function fails below e = (k, fails.0, e, fails.1, record { 
 -- the first body that isn't valid
 pub fails-in : (m : Module) (k place : ℕ) (f : Func) → slice_get m.funcs k ≡ Some f → BodyFailsAt m f place → ((j : ℕ) → j < k → EntryIsValid m Code j) → FailsIn m k place
 fails-in m k place f e fails before = (f, e, record { invalid = λ valid. fails-invalid m f place fails (valid f e); before = before }, fails)
+
+-- one body more is valid
+passes : (m : Module) (f : Func) (o : Option ℕ) → ((k : ℕ) → o ≡ Some k → ⊥) → MatchOption o (BodyIsValid m f) (BodyFailsAt m f) → BodyIsValid m f
+passes m f None not h = h
+passes m f (Some k) not h = absurd (not k refl)
+
+pub bodies-more : (m : Module) (k : ℕ) (f : Func) (o : Option ℕ) → slice_get m.funcs k ≡ Some f → ((place : ℕ) → o ≡ Some place → ⊥) → MatchOption o (BodyIsValid m f) (BodyFailsAt m f) →
+    ((j : ℕ) → j < k → EntryIsValid m Code j) → (j : ℕ) → j < k + 1 → EntryIsValid m Code j
+bodies-more m k f o at not h before j less x there = by (nat_lt j k) refl
+  where
+    by : (b : Bool) → nat_lt j k ≡ b → BodyIsValid m x
+    by true is = let below : j < k = grind (arith, nat_tests, is) in before j below x there
+    by false is =
+        let same : j ≡ k = grind (arith, nat_tests, is, less) in
+        let both : Some f ≡ Some x = sym at ∙ ap (λ i. slice_get m.funcs i) (sym same) ∙ there in
+        let one : f ≡ x = cc in
+        subst (BodyIsValid m) one (passes m f o not h)
 
 -- the sections before the code section, in order
 abbrev front : List Section

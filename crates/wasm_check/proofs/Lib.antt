@@ -7,11 +7,14 @@ mod Examples
 mod FaultLemmas
 mod Faults
 mod Labels
+mod NamedLists
 mod LocalLemmas
 mod MarkLemmas
 mod ModuleLemmas
 mod NameLemmas
+mod OpenLemmas
 mod Rules
+mod RunLemmas
 mod Signatures
 mod Stacks
 mod TreeLemmas

@@ -5,10 +5,12 @@ pub mod Contexts
 pub mod Faults
 pub mod Instructions
 pub mod Kept
+pub mod Lists
 pub mod Modules
 pub mod Operands
 pub mod Operators
 pub mod Progress
+pub mod Runs
 pub mod Spaces
 pub mod Trees
 pub mod Walk

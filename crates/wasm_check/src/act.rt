@@ -1,11 +1,15 @@
 // What the checker does with a plain instruction.
-ghost use Rattle.std.specs.Prelude.{◌≡◌, ◌∷◌, [], IfOk, MatchOption, None, Some};
+ghost use Rattle.std.specs.Prelude.{◌≡◌, ◌∷◌, [], IfOk, None, Some};
 ghost use Rattle.wasm_ast.specs.declared.instructions.Instr.TheVariants.{RefIsNull, Discard, Select};
 ghost use Rattle.wasm_check.specs.Operands.{operands};
 ghost use Rattle.wasm_check.specs.Contexts.{Context};
+ghost use Rattle.wasm_check.specs.Lists.{listed};
+ghost use Rattle.wasm_check.specs.Runs.{known};
 ghost use Rattle.wasm_check.specs.Checker.{Answers, bind, common as common_of, numeric as numeric_of, joined as joined_type, reference as reference_of, dead_end, popped, onto, applies as applies_of, acts as acts_of};
 
+use crate::lists::Listed;
 use crate::operands::Operand;
+use crate::scope::Scope;
 use crate::stack::Stack;
 use std::alloc::AllocError;
 use wasm_ast::ValType;
@@ -54,78 +58,99 @@ fn joined(t: Operand, u: Operand) -> Option<Operand>
 
 /// An instruction of the type `[params] → [results]`. The answer is whether it is typed; if it isn't, the stack may have
 /// lost operands.
-pub fn applies(s: &mut Stack, params: &[ValType], results: &[ValType]) -> Result<bool, AllocError>
-    ensures { IfOk result (λ b. Answers b (applies_of params.now results.now s.old) s.new) }
+pub fn applies(
+    scope: &Scope,
+    s: &mut Stack,
+    params: &[ValType],
+    results: &[ValType],
+) -> Result<bool, AllocError>
+    ensures { IfOk result (λ b. Answers b (applies_of params.now results.now (known scope.now.types s.old)) (known scope.now.types s.new)) }
 {
-    if !s.take_all(params) {
+    if !s.take_all(scope, params) {
         return Ok(false);
     }
-    s.put_all(results)?;
+    s.put_all(scope, results)?;
+    Ok(true)
+}
+
+/// An instruction whose params and results are lists of the module.
+pub fn applies_lists(
+    scope: &Scope,
+    s: &mut Stack,
+    params: Listed,
+    results: Listed,
+) -> Result<bool, AllocError>
+    ensures { IfOk result (λ b. Answers b (applies_of (listed scope.now.types params) (listed scope.now.types results) (known scope.now.types s.old)) (known scope.now.types s.new)) }
+{
+    if !s.take_list(scope, params) {
+        return Ok(false);
+    }
+    s.put_list(scope, results)?;
     Ok(true)
 }
 
 /// `ref.is_null`
-pub fn ref_is_null(s: &mut Stack) -> Result<bool, AllocError>
-    ensures { IfOk result (λ b. (C : Context) → Answers b (acts_of C [] RefIsNull s.old) s.new) }
+pub fn ref_is_null(scope: &Scope, s: &mut Stack) -> Result<bool, AllocError>
+    ensures { IfOk result (λ b. (C : Context) → Answers b (acts_of C [] RefIsNull (known scope.now.types s.old)) (known scope.now.types s.new)) }
 {
-    let Some(t) = s.pop() else {
+    let Some(t) = s.pop(scope) else {
         return Ok(false);
     };
     if !is_reference(t) {
         return Ok(false);
     }
-    s.push(Operand::Of(ValType::I32))?;
+    s.push(scope, Operand::Of(ValType::I32))?;
     Ok(true)
 }
 
 /// `drop`
-pub fn discard(s: &mut Stack) -> bool
-    ensures { (C : Context) → Answers result (acts_of C [] Discard s.old) s.new }
+pub fn discard(scope: &Scope, s: &mut Stack) -> bool
+    ensures { (C : Context) → Answers result (acts_of C [] Discard (known scope.now.types s.old)) (known scope.now.types s.new) }
 {
-    s.pop().is_some()
+    s.pop(scope).is_some()
 }
 
 /// `select` without types
-pub fn select(s: &mut Stack) -> Result<bool, AllocError>
-    ensures { IfOk result (λ b. (C : Context) → Answers b (acts_of C [] Select s.old) s.new) }
+pub fn select(scope: &Scope, s: &mut Stack) -> Result<bool, AllocError>
+    ensures { IfOk result (λ b. (C : Context) → Answers b (acts_of C [] Select (known scope.now.types s.old)) (known scope.now.types s.new)) }
 {
-    if !s.take(ValType::I32) {
+    if !s.take(scope, ValType::I32) {
         return Ok(false);
     }
-    let Some(t) = s.pop() else {
+    let Some(t) = s.pop(scope) else {
         return Ok(false);
     };
-    let Some(u) = s.pop() else {
+    let Some(u) = s.pop(scope) else {
         return Ok(false);
     };
     let Some(both) = joined(t, u) else {
         return Ok(false);
     };
-    s.push(both)?;
+    s.push(scope, both)?;
     Ok(true)
 }
 
 /// An unconditional branch that carries these operands.
-pub fn leaves(s: &mut Stack, carried: &[ValType]) -> bool
-    ensures { Answers result (bind (popped (operands carried.now) s.old) (λ gone. Some dead_end)) s.new }
+pub fn leaves(scope: &Scope, s: &mut Stack, carried: Listed) -> bool
+    ensures { Answers result (bind (popped (operands (listed scope.now.types carried)) (known scope.now.types s.old)) (λ gone. Some dead_end)) (known scope.now.types s.new) }
 {
-    if !s.take_all(carried) {
+    if !s.take_list(scope, carried) {
         return false;
     }
-    s.kill();
+    s.kill(scope);
     true
 }
 
 /// `br_if` to a label whose branches carry these operands.
-pub fn may_leave(s: &mut Stack, carried: &[ValType]) -> Result<bool, AllocError>
-    ensures { IfOk result (λ b. Answers b (bind (popped (Operand.Of ValType.I32 ∷ operands carried.now) s.old) (λ left. Some (onto (operands carried.now) left))) s.new) }
+pub fn may_leave(scope: &Scope, s: &mut Stack, carried: Listed) -> Result<bool, AllocError>
+    ensures { IfOk result (λ b. Answers b (bind (popped (Operand.Of ValType.I32 ∷ operands (listed scope.now.types carried)) (known scope.now.types s.old)) (λ left. Some (onto (operands (listed scope.now.types carried)) left))) (known scope.now.types s.new)) }
 {
-    if !s.take(ValType::I32) {
+    if !s.take(scope, ValType::I32) {
         return Ok(false);
     }
-    if !s.take_all(carried) {
+    if !s.take_list(scope, carried) {
         return Ok(false);
     }
-    s.put_all(carried)?;
+    s.put_list(scope, carried)?;
     Ok(true)
 }

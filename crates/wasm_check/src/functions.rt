@@ -1,5 +1,5 @@
 // The bodies of a module's functions.
-ghost use Rattle.std.specs.Prelude.{◌≡◌, ◌<◌, ◌^◌, IfOk, MatchOption, length, None};
+ghost use Rattle.std.specs.Prelude.{◌≡◌, ◌<◌, IfOk, MatchOption, length, None};
 ghost use Rattle.wasm_ast.specs.Shape.{FuncHasShape, HasShape};
 ghost use Rattle.wasm_check.specs.declared.sections.Section.TheVariants.{Functions, Code};
 ghost use Rattle.wasm_check.specs.Contexts.{funcs_of};
@@ -8,6 +8,7 @@ ghost use Rattle.wasm_check.specs.Faults.{BodyFailsAt};
 ghost use Rattle.wasm_check.specs.Spaces.{AreSpacesOf, AreDeclared, FailsIn};
 
 use crate::body::body_fault;
+use crate::lists::Lists;
 use crate::locals::Locals;
 use crate::scope::Scope;
 use crate::spaces::Spaces;
@@ -20,17 +21,19 @@ pub fn func_fault<'a>(
     m: &'a Module,
     spaces: &'a Spaces,
     declared: &'a [bool],
+    lists: &'a Lists<'a>,
     f: &'a Func,
 ) -> Result<Option<u64>, AllocError>
     requires spaces { AreSpacesOf m.now spaces.now }
     requires declared { AreDeclared m.now (length (funcs_of m.now)) declared.now }
+    requires lists { lists.now ≡ m.now.types }
     requires shape { FuncHasShape f.now }
     requires typed { IsType m.now f.now.ty }
     ensures { IfOk result (λ r. MatchOption r (BodyIsValid m.now f.now) (BodyFailsAt m.now f.now)) }
 {
     let locals = Locals::new(alloc, f.locals.as_slice())?;
     let ty = m.types.get(f.ty as usize);
-    let scope = Scope::new(m, spaces, declared, ty, &locals);
+    let scope = Scope::new(m, spaces, declared, lists, f.ty, ty, &locals);
     Ok(body_fault(alloc, &scope, &f.body)?)
 }
 
@@ -48,9 +51,10 @@ pub fn first_body<'a>(
     requires typed { SectionIsValid m.now Functions }
     ensures { IfOk result (λ r. MatchOption r (SectionIsValid m.now Code) (λ at. FailsIn m.now at.0 at.1)) }
 {
+    let lists = Lists::new(alloc, m.types.as_slice())?;
     for k in 0..m.funcs.len() {
         let f = m.funcs.get(k);
-        if let Some(place) = func_fault(alloc, m, spaces, declared, f)? {
+        if let Some(place) = func_fault(alloc, m, spaces, declared, &lists, f)? {
             return Ok(Some((k as u32, place)));
         }
     }

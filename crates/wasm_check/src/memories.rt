@@ -2,6 +2,7 @@
 ghost use Rattle.std.specs.Prelude.{◌≡◌, ◌<◌, [], IfOk};
 ghost use Rattle.wasm_ast.specs.declared.instructions.Instr.TheVariants.{Load, Store, MemorySize, MemoryGrow, MemoryInit, DataDrop, MemoryCopy, MemoryFill};
 ghost use Rattle.wasm_check.specs.Operators.{accessed_type as accessed_type_of, accessed_bytes as accessed_bytes_of};
+ghost use Rattle.wasm_check.specs.Runs.{known};
 ghost use Rattle.wasm_check.specs.Checker.{Answers, acts as acts_of, is_aligned as is_aligned_to};
 ghost use Rattle.wasm_check.specs.Kept.{context};
 
@@ -53,7 +54,7 @@ pub fn load(
     offset: u32,
     s: &mut Stack,
 ) -> Result<bool, AllocError>
-    ensures { IfOk result (λ b. Answers b (acts_of (context scope.now) [] (Load op align offset) s.old) s.new) }
+    ensures { IfOk result (λ b. Answers b (acts_of (context scope.now) [] (Load op align offset) (known scope.now.types s.old)) (known scope.now.types s.new)) }
 {
     if !scope.has_memory() {
         return Ok(false);
@@ -61,7 +62,7 @@ pub fn load(
     if !is_aligned(op, align) {
         return Ok(false);
     }
-    Ok(applies(s, &[ValType::I32], &[accessed_type(op)])?)
+    Ok(applies(scope, s, &[ValType::I32], &[accessed_type(op)])?)
 }
 
 /// A store.
@@ -72,7 +73,7 @@ pub fn store(
     offset: u32,
     s: &mut Stack,
 ) -> Result<bool, AllocError>
-    ensures { IfOk result (λ b. Answers b (acts_of (context scope.now) [] (Store op align offset) s.old) s.new) }
+    ensures { IfOk result (λ b. Answers b (acts_of (context scope.now) [] (Store op align offset) (known scope.now.types s.old)) (known scope.now.types s.new)) }
 {
     if !scope.has_memory() {
         return Ok(false);
@@ -80,32 +81,32 @@ pub fn store(
     if !is_aligned(op, align) {
         return Ok(false);
     }
-    Ok(applies(s, &[ValType::I32, accessed_type(op)], &[])?)
+    Ok(applies(scope, s, &[ValType::I32, accessed_type(op)], &[])?)
 }
 
 /// `memory.size`
 pub fn memory_size(scope: &Scope, s: &mut Stack) -> Result<bool, AllocError>
-    ensures { IfOk result (λ b. Answers b (acts_of (context scope.now) [] MemorySize s.old) s.new) }
+    ensures { IfOk result (λ b. Answers b (acts_of (context scope.now) [] MemorySize (known scope.now.types s.old)) (known scope.now.types s.new)) }
 {
     if !scope.has_memory() {
         return Ok(false);
     }
-    Ok(applies(s, &[], &[ValType::I32])?)
+    Ok(applies(scope, s, &[], &[ValType::I32])?)
 }
 
 /// `memory.grow`
 pub fn memory_grow(scope: &Scope, s: &mut Stack) -> Result<bool, AllocError>
-    ensures { IfOk result (λ b. Answers b (acts_of (context scope.now) [] MemoryGrow s.old) s.new) }
+    ensures { IfOk result (λ b. Answers b (acts_of (context scope.now) [] MemoryGrow (known scope.now.types s.old)) (known scope.now.types s.new)) }
 {
     if !scope.has_memory() {
         return Ok(false);
     }
-    Ok(applies(s, &[ValType::I32], &[ValType::I32])?)
+    Ok(applies(scope, s, &[ValType::I32], &[ValType::I32])?)
 }
 
 /// `memory.init`
 pub fn memory_init(scope: &Scope, x: u32, s: &mut Stack) -> Result<bool, AllocError>
-    ensures { IfOk result (λ b. Answers b (acts_of (context scope.now) [] (MemoryInit x) s.old) s.new) }
+    ensures { IfOk result (λ b. Answers b (acts_of (context scope.now) [] (MemoryInit x) (known scope.now.types s.old)) (known scope.now.types s.new)) }
 {
     if !scope.has_memory() {
         return Ok(false);
@@ -113,35 +114,35 @@ pub fn memory_init(scope: &Scope, x: u32, s: &mut Stack) -> Result<bool, AllocEr
     if !scope.is_data(x) {
         return Ok(false);
     }
-    Ok(applies(s, &[ValType::I32, ValType::I32, ValType::I32], &[])?)
+    Ok(applies(scope, s, &[ValType::I32, ValType::I32, ValType::I32], &[])?)
 }
 
 /// `data.drop`
 pub fn data_drop(scope: &Scope, x: u32, s: &mut Stack) -> Result<bool, AllocError>
-    ensures { IfOk result (λ b. Answers b (acts_of (context scope.now) [] (DataDrop x) s.old) s.new) }
+    ensures { IfOk result (λ b. Answers b (acts_of (context scope.now) [] (DataDrop x) (known scope.now.types s.old)) (known scope.now.types s.new)) }
 {
     if !scope.is_data(x) {
         return Ok(false);
     }
-    Ok(applies(s, &[], &[])?)
+    Ok(applies(scope, s, &[], &[])?)
 }
 
 /// `memory.copy`
 pub fn memory_copy(scope: &Scope, s: &mut Stack) -> Result<bool, AllocError>
-    ensures { IfOk result (λ b. Answers b (acts_of (context scope.now) [] MemoryCopy s.old) s.new) }
+    ensures { IfOk result (λ b. Answers b (acts_of (context scope.now) [] MemoryCopy (known scope.now.types s.old)) (known scope.now.types s.new)) }
 {
     if !scope.has_memory() {
         return Ok(false);
     }
-    Ok(applies(s, &[ValType::I32, ValType::I32, ValType::I32], &[])?)
+    Ok(applies(scope, s, &[ValType::I32, ValType::I32, ValType::I32], &[])?)
 }
 
 /// `memory.fill`
 pub fn memory_fill(scope: &Scope, s: &mut Stack) -> Result<bool, AllocError>
-    ensures { IfOk result (λ b. Answers b (acts_of (context scope.now) [] MemoryFill s.old) s.new) }
+    ensures { IfOk result (λ b. Answers b (acts_of (context scope.now) [] MemoryFill (known scope.now.types s.old)) (known scope.now.types s.new)) }
 {
     if !scope.has_memory() {
         return Ok(false);
     }
-    Ok(applies(s, &[ValType::I32, ValType::I32, ValType::I32], &[])?)
+    Ok(applies(scope, s, &[ValType::I32, ValType::I32, ValType::I32], &[])?)
 }

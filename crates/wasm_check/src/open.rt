@@ -1,41 +1,36 @@
 // The open sequences of a body, and what opening, `else` and `end` do with them.
-ghost use Rattle.std.specs.Prelude.{◌≡◌, ◌∷◌, [], IfOk, MatchOption, None, Some, Option, List, true, false, reverse, slice_get};
+ghost use Rattle.std.specs.Prelude.{◌≡◌, ◌∷◌, IfOk, MatchOption, None, Some, Option, List, false, true, slice_get};
 ghost use Rattle.wasm_ast.specs.declared.instructions.Instr.TheVariants.{BrTable};
 ghost use Rattle.wasm_check.specs.declared.operands.Operand.TheVariants.{Of};
 ghost use Rattle.wasm_check.specs.Operands.{operands};
 ghost use Rattle.wasm_check.specs.Operators.{arrow};
 ghost use Rattle.wasm_check.specs.Contexts.{Context};
-ghost use Rattle.wasm_check.specs.Carried.{AreAlike, SeenPass, CanCarry};
-ghost use Rattle.wasm_check.specs.Checker.{Answers, SomeBy, Open, when, labels_of, each_fits, acts as acts_of, finished as finished_of, finished_other, opened as opened_of, opens as opens_of, turns as turns_of, ends as ends_of};
+ghost use Rattle.wasm_check.specs.Lists.{listed};
+ghost use Rattle.wasm_check.specs.Runs.{known, open_of, open_seqs, labels_in};
+ghost use Rattle.wasm_check.specs.Carried.{SeenPass, CanCarry};
+ghost use Rattle.wasm_check.specs.Checker.{Answers, SomeBy, Open, when, each_fits, acts as acts_of, finished as finished_of, finished_other, opened as opened_of, opens as opens_of, turns as turns_of, ends as ends_of};
 
-use crate::carried::{Carried, Seen, told_of};
+use crate::carried::Seen;
+use crate::lists::Listed;
+use crate::scope::Scope;
 use crate::stack::Stack;
 use std::alloc::{AllocError, Global};
-use std::marker::Model;
 use wasm_ast::ValType;
 
 /// An open sequence: what a branch to its label carries, what it takes and gives, whether it is the first part of an
 /// `if`, and its operands.
 #[derive(Drop)]
-pub struct OpenSeq<'a> {
-    pub label: &'a [ValType],
-    pub params: &'a [ValType],
-    pub results: &'a [ValType],
+pub struct OpenSeq {
+    pub label: Listed,
+    pub params: Listed,
+    pub results: Listed,
     pub first: bool,
     pub stack: Stack,
 }
 
-impl<'a> Model for OpenSeq<'a> {
-    ghost use Rattle.wasm_check.specs.Checker.{Open as OpenSequence};
-
-    ghost Value = { OpenSequence };
-
-    ghost view = { λ o. record { label = o.label.now; params = o.params.now; results = o.results.now; first = o.first; stack = o.stack } };
-}
-
 /// What a branch to the label carries, by its number: `own` is of the innermost sequence, the others are in `outer`.
-pub fn label_of<'a>(own: &'a [ValType], outer: &[OpenSeq<'a>], k: u32) -> Option<&'a [ValType]>
-    ensures { MatchOption result (slice_get (own.now ∷ labels_of (reverse outer.now)) k ≡ None) (λ l. slice_get (own.now ∷ labels_of (reverse outer.now)) k ≡ Some l.now) }
+pub fn label_of(_scope: &Scope, own: Listed, outer: &[OpenSeq], k: u32) -> Option<Listed>
+    ensures { MatchOption result (slice_get (labels_in _scope.now.types own outer.now) k ≡ None) (λ l. slice_get (labels_in _scope.now.types own outer.now) k ≡ Some (listed _scope.now.types l)) }
 {
     if k == 0 {
         return Some(own);
@@ -48,126 +43,123 @@ pub fn label_of<'a>(own: &'a [ValType], outer: &[OpenSeq<'a>], k: u32) -> Option
     Some(there.label)
 }
 
-// Whether the label is there, carries as many types as wanted, and the operands match them. Of the labels of which the
-// same is told it looks at one.
-fn fits_one<'a>(
-    own: &'a [ValType],
-    outer: &[OpenSeq<'a>],
-    told: &[Option<Carried>],
-    wanted: &[ValType],
+// Whether the label is there, carries as many types as wanted, and the operands match them. Of the labels of one name it
+// looks at one.
+fn fits_one(
+    scope: &Scope,
+    own: Listed,
+    outer: &[OpenSeq],
+    wanted: Listed,
     k: u32,
     s: &Stack,
     seen: &mut Seen,
 ) -> Result<bool, AllocError>
-    requires alike { AreAlike (reverse told.now) (own.now ∷ labels_of (reverse outer.now)) }
-    requires pass { SeenPass (reverse told.now) (own.now ∷ labels_of (reverse outer.now)) wanted.now s.now seen.old }
-    ensures fits { IfOk result (λ b. CanCarry b (own.now ∷ labels_of (reverse outer.now)) wanted.now s.now k) }
-    ensures pass { IfOk result (λ b. SeenPass (reverse told.now) (own.now ∷ labels_of (reverse outer.now)) wanted.now s.now seen.new) }
+    requires pass { SeenPass scope.now.types (listed scope.now.types wanted) (known scope.now.types s.now) seen.old }
+    ensures fits { IfOk result (λ b. CanCarry b (labels_in scope.now.types own outer.now) (listed scope.now.types wanted) (known scope.now.types s.now) k) }
+    ensures pass { IfOk result (λ b. SeenPass scope.now.types (listed scope.now.types wanted) (known scope.now.types s.now) seen.new) }
 {
-    let Some(these) = label_of(own, outer, k) else {
+    let Some(list) = label_of(scope, own, outer, k) else {
         return Ok(false);
     };
-    let what = told_of(told, k);
-    if seen.has(what) {
+    if seen.has(list) {
         return Ok(true);
     }
-    if these.len() != wanted.len() {
+    if scope.list(list).len() != scope.list(wanted).len() {
         return Ok(false);
     }
-    let mut rest = s.peek();
-    if !rest.take_all(these) {
+    let mut rest = s.peek(scope);
+    if !rest.take_list(scope, list) {
         return Ok(false);
     }
-    seen.put(what)?;
+    seen.put(list)?;
     Ok(true)
 }
 
 // Whether each of these labels is there, carries as many types as wanted, and the operands match them.
-fn each<'a>(
+fn each(
     alloc: Global,
-    own: &'a [ValType],
-    outer: &[OpenSeq<'a>],
-    told: &[Option<Carried>],
-    wanted: &[ValType],
+    scope: &Scope,
+    own: Listed,
+    outer: &[OpenSeq],
+    wanted: Listed,
     labels: &[u32],
     s: &Stack,
 ) -> Result<bool, AllocError>
-    requires { AreAlike (reverse told.now) (own.now ∷ labels_of (reverse outer.now)) }
-    ensures { IfOk result (λ b. SomeBy b (each_fits (own.now ∷ labels_of (reverse outer.now)) wanted.now labels.now s.now.dead s.now.ops) s.now.ops) }
+    ensures { IfOk result (λ b. SomeBy b (each_fits (labels_in scope.now.types own outer.now) (listed scope.now.types wanted) labels.now (known scope.now.types s.now).dead (known scope.now.types s.now).ops) (known scope.now.types s.now).ops) }
 {
     let mut seen = Seen::new(alloc);
     for k in labels {
-        if !fits_one(own, outer, told, wanted, *k, s, &mut seen)? {
+        if !fits_one(scope, own, outer, wanted, *k, s, &mut seen)? {
             return Ok(false);
         }
     }
     Ok(true)
 }
 
-/// `br_table`. It costs its labels, and the values of each different block type among those that they name.
-pub fn choose<'a>(
+/// `br_table`. It costs its labels, and what each different list among those that they carry costs to be taken.
+pub fn choose(
     alloc: Global,
-    own: &'a [ValType],
-    outer: &[OpenSeq<'a>],
-    told: &[Option<Carried>],
+    scope: &Scope,
+    own: Listed,
+    outer: &[OpenSeq],
     labels: &[u32],
     last: u32,
     s: &mut Stack,
 ) -> Result<bool, AllocError>
-    requires { AreAlike (reverse told.now) (own.now ∷ labels_of (reverse outer.now)) }
-    ensures { IfOk result (λ b. (C : Context) → Answers b (acts_of C (own.now ∷ labels_of (reverse outer.now)) (BrTable labels.now last) s.old) s.new) }
+    ensures { IfOk result (λ b. (C : Context) → Answers b (acts_of C (labels_in scope.now.types own outer.now) (BrTable labels.now last) (known scope.now.types s.old)) (known scope.now.types s.new)) }
 {
-    if !s.take(ValType::I32) {
+    if !s.take(scope, ValType::I32) {
         return Ok(false);
     }
-    let Some(wanted) = label_of(own, outer, last) else {
+    let Some(wanted) = label_of(scope, own, outer, last) else {
         return Ok(false);
     };
-    if !each(alloc, own, outer, told, wanted, &[last], s)? {
+    if !each(alloc, scope, own, outer, wanted, &[last], s)? {
         return Ok(false);
     }
-    if !each(alloc, own, outer, told, wanted, labels, s)? {
+    if !each(alloc, scope, own, outer, wanted, labels, s)? {
         return Ok(false);
     }
-    s.kill();
+    s.kill(scope);
     Ok(true)
 }
 
 // Whether a sequence with these results may end with these operands.
-fn finished(results: &[ValType], s: &Stack) -> bool
-    ensures { (go : Option (List Open)) → finished_of results.now s.now go ≡ when result go }
+fn finished(scope: &Scope, results: Listed, s: &Stack) -> bool
+    ensures { (go : Option (List Open)) → finished_of (listed scope.now.types results) (known scope.now.types s.now) go ≡ when result go }
 {
-    let mut rest = s.peek();
-    if !rest.take_all(results) {
+    let mut rest = s.peek(scope);
+    if !rest.take_list(scope, results) {
         return false;
     }
-    rest.is_empty()
+    rest.is_empty(scope)
 }
 
-fn fresh(alloc: Global, types: &[ValType]) -> Result<Stack, AllocError>
-    ensures { IfOk result (λ s. s ≡ record { dead = false; ops = operands types.now }) }
+fn fresh(alloc: Global, scope: &Scope, types: Listed) -> Result<Stack, AllocError>
+    ensures { IfOk result (λ s. known scope.now.types s ≡ record { dead = false; ops = operands (listed scope.now.types types) }) }
 {
-    let mut stack = Stack::new(alloc);
-    stack.put_all(types)?;
+    let mut stack = Stack::new(alloc, scope);
+    stack.put_list(scope, types)?;
     Ok(stack)
 }
 
 /// Opens a `block` or a `loop` of the type `[params] → [results]` in the sequence `o`.
-pub fn opens<'a>(
+pub fn opens(
     alloc: Global,
-    seqs: &mut Vec<OpenSeq<'a>>,
-    label: &'a [ValType],
-    params: &'a [ValType],
-    results: &'a [ValType],
-    o: OpenSeq<'a>,
+    scope: &Scope,
+    seqs: &mut Vec<OpenSeq>,
+    label: Listed,
+    params: Listed,
+    results: Listed,
+    o: OpenSeq,
 ) -> Result<bool, AllocError>
-    ensures { IfOk result (λ b. SomeBy b (opens_of (operands params.now) (opened_of label.now (arrow params.now results.now) false) o.entry (reverse seqs.old.items)) (reverse seqs.new.items)) }
+    ensures { IfOk result (λ b. SomeBy b (opens_of (operands (listed scope.now.types params)) (opened_of (listed scope.now.types label) (arrow (listed scope.now.types params) (listed scope.now.types results)) false) (open_of scope.now.types o) (open_seqs scope.now.types seqs.old.items)) (open_seqs scope.now.types seqs.new.items)) }
 {
     let mut o = o;
-    if !o.stack.take_all(params) {
+    if !o.stack.take_list(scope, params) {
         return Ok(false);
     }
-    let stack = fresh(alloc, params)?;
+    let stack = fresh(alloc, scope, params)?;
     seqs.push(o)?;
     seqs.push(OpenSeq {
         label,
@@ -180,23 +172,24 @@ pub fn opens<'a>(
 }
 
 /// Opens an `if` of the type `[params] → [results]` in the sequence `o`.
-pub fn opens_if<'a>(
+pub fn opens_if(
     alloc: Global,
-    seqs: &mut Vec<OpenSeq<'a>>,
-    params: &'a [ValType],
-    results: &'a [ValType],
-    o: OpenSeq<'a>,
+    scope: &Scope,
+    seqs: &mut Vec<OpenSeq>,
+    params: Listed,
+    results: Listed,
+    o: OpenSeq,
 ) -> Result<bool, AllocError>
-    ensures { IfOk result (λ b. SomeBy b (opens_of (Of ValType.I32 ∷ operands params.now) (opened_of results.now (arrow params.now results.now) true) o.entry (reverse seqs.old.items)) (reverse seqs.new.items)) }
+    ensures { IfOk result (λ b. SomeBy b (opens_of (Of ValType.I32 ∷ operands (listed scope.now.types params)) (opened_of (listed scope.now.types results) (arrow (listed scope.now.types params) (listed scope.now.types results)) true) (open_of scope.now.types o) (open_seqs scope.now.types seqs.old.items)) (open_seqs scope.now.types seqs.new.items)) }
 {
     let mut o = o;
-    if !o.stack.take(ValType::I32) {
+    if !o.stack.take(scope, ValType::I32) {
         return Ok(false);
     }
-    if !o.stack.take_all(params) {
+    if !o.stack.take_list(scope, params) {
         return Ok(false);
     }
-    let stack = fresh(alloc, params)?;
+    let stack = fresh(alloc, scope, params)?;
     seqs.push(o)?;
     seqs.push(OpenSeq {
         label: results,
@@ -209,20 +202,21 @@ pub fn opens_if<'a>(
 }
 
 /// `else`
-pub fn turns<'a>(
+pub fn turns(
     alloc: Global,
-    seqs: &mut Vec<OpenSeq<'a>>,
-    o: OpenSeq<'a>,
+    scope: &Scope,
+    seqs: &mut Vec<OpenSeq>,
+    o: OpenSeq,
 ) -> Result<bool, AllocError>
-    ensures { IfOk result (λ b. SomeBy b (turns_of o.entry (reverse seqs.old.items)) (reverse seqs.new.items)) }
+    ensures { IfOk result (λ b. SomeBy b (turns_of (open_of scope.now.types o) (open_seqs scope.now.types seqs.old.items)) (open_seqs scope.now.types seqs.new.items)) }
 {
     if !o.first {
         return Ok(false);
     }
-    if !finished(o.results, &o.stack) {
+    if !finished(scope, o.results, &o.stack) {
         return Ok(false);
     }
-    let stack = fresh(alloc, o.params)?;
+    let stack = fresh(alloc, scope, o.params)?;
     seqs.push(OpenSeq {
         label: o.label,
         params: o.params,
@@ -234,34 +228,35 @@ pub fn turns<'a>(
 }
 
 // Whether a part of an `if` that isn't written may be empty.
-fn other_finished(alloc: Global, o: &OpenSeq) -> Result<bool, AllocError>
-    ensures { IfOk result (λ b. (go : Option (List Open)) → finished_other o.now.first o.now go ≡ when b go) }
+fn other_finished(alloc: Global, scope: &Scope, o: &OpenSeq) -> Result<bool, AllocError>
+    ensures { IfOk result (λ b. (go : Option (List Open)) → finished_other o.now.first (open_of scope.now.types o.now) go ≡ when b go) }
 {
     if !o.first {
         return Ok(true);
     }
-    let stack = fresh(alloc, o.params)?;
-    Ok(finished(o.results, &stack))
+    let stack = fresh(alloc, scope, o.params)?;
+    Ok(finished(scope, o.results, &stack))
 }
 
 /// `end`
-pub fn ends<'a>(
+pub fn ends(
     alloc: Global,
-    seqs: &mut Vec<OpenSeq<'a>>,
-    o: OpenSeq<'a>,
+    scope: &Scope,
+    seqs: &mut Vec<OpenSeq>,
+    o: OpenSeq,
 ) -> Result<bool, AllocError>
-    ensures { IfOk result (λ b. SomeBy b (ends_of o.entry (reverse seqs.old.items)) (reverse seqs.new.items)) }
+    ensures { IfOk result (λ b. SomeBy b (ends_of (open_of scope.now.types o) (open_seqs scope.now.types seqs.old.items)) (open_seqs scope.now.types seqs.new.items)) }
 {
-    if !finished(o.results, &o.stack) {
+    if !finished(scope, o.results, &o.stack) {
         return Ok(false);
     }
-    if !other_finished(alloc, &o)? {
+    if !other_finished(alloc, scope, &o)? {
         return Ok(false);
     }
     let Some(mut around) = seqs.pop() else {
         return Ok(true);
     };
-    around.stack.put_all(o.results)?;
+    around.stack.put_list(scope, o.results)?;
     seqs.push(around)?;
     Ok(true)
 }

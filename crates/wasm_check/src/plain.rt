@@ -1,12 +1,12 @@
 // What the checker does with an instruction that has no sequence inside it.
-ghost use Rattle.std.specs.Prelude.{◌≡◌, ◌∷◌, [], IfOk, reverse};
-ghost use Rattle.wasm_check.specs.Carried.{AreAlike};
-ghost use Rattle.wasm_check.specs.Checker.{Answers, labels_of, acts as acts_of};
+ghost use Rattle.std.specs.Prelude.{IfOk};
+ghost use Rattle.wasm_check.specs.Runs.{known, labels_in};
+ghost use Rattle.wasm_check.specs.Checker.{Answers, acts as acts_of};
 ghost use Rattle.wasm_check.specs.Kept.{context};
 
 use crate::act::{applies, discard, leaves, may_leave, ref_is_null, select};
 use crate::calls::{call, call_indirect, ref_func, select_typed};
-use crate::carried::Carried;
+use crate::lists::Listed;
 use crate::memories::{
     data_drop, load, memory_copy, memory_fill, memory_grow, memory_init, memory_size, store,
 };
@@ -21,47 +21,45 @@ use crate::variables::{global_get, global_set, local_get, local_set, local_tee};
 use std::alloc::{AllocError, Global};
 use wasm_ast::{Instr, ValType};
 
-/// The instruction, in a sequence whose label is `own`, inside the sequences `outer`, where `told` is told of the labels. The
-/// answer is whether it is typed; if it isn't, the stack may have lost operands.
-pub fn acts<'a>(
+/// The instruction, in a sequence whose label is `own`, inside the sequences `outer`. The answer is whether it is typed; if
+/// it isn't, the stack may have lost operands.
+pub fn acts(
     alloc: Global,
     scope: &Scope,
-    own: &'a [ValType],
-    outer: &[OpenSeq<'a>],
-    told: &[Option<Carried>],
+    own: Listed,
+    outer: &[OpenSeq],
     i: &Instr,
     s: &mut Stack,
 ) -> Result<bool, AllocError>
-    requires { AreAlike (reverse told.now) (own.now ∷ labels_of (reverse outer.now)) }
-    ensures { IfOk result (λ b. Answers b (acts_of (context scope.now) (own.now ∷ labels_of (reverse outer.now)) i.now s.old) s.new) }
+    ensures { IfOk result (λ b. Answers b (acts_of (context scope.now) (labels_in scope.now.types own outer.now) i.now (known scope.now.types s.old)) (known scope.now.types s.new)) }
 {
     match i {
         Instr::Unreachable => {
-            s.kill();
+            s.kill(scope);
             Ok(true)
         }
-        Instr::Nop => Ok(applies(s, &[], &[])?),
+        Instr::Nop => Ok(applies(scope, s, &[], &[])?),
         Instr::Block { .. } | Instr::Loop { .. } | Instr::If { .. } => Ok(false),
-        Instr::Br(k) => match label_of(own, outer, *k) {
+        Instr::Br(k) => match label_of(scope, own, outer, *k) {
             None => Ok(false),
-            Some(types) => Ok(leaves(s, types)),
+            Some(list) => Ok(leaves(scope, s, list)),
         },
-        Instr::BrIf(k) => match label_of(own, outer, *k) {
+        Instr::BrIf(k) => match label_of(scope, own, outer, *k) {
             None => Ok(false),
-            Some(types) => Ok(may_leave(s, types)?),
+            Some(list) => Ok(may_leave(scope, s, list)?),
         },
         Instr::BrTable { labels, last } => {
-            Ok(choose(alloc, own, outer, told, labels.as_slice(), *last, s)?)
+            Ok(choose(alloc, scope, own, outer, labels.as_slice(), *last, s)?)
         }
-        Instr::Return => Ok(leaves(s, scope.results())),
+        Instr::Return => Ok(leaves(scope, s, scope.results())),
         Instr::Call(x) => Ok(call(scope, *x, s)?),
         Instr::CallIndirect { ty, table } => Ok(call_indirect(scope, *ty, *table, s)?),
-        Instr::RefNull(kind) => Ok(applies(s, &[], &[*kind])?),
-        Instr::RefIsNull => Ok(ref_is_null(s)?),
+        Instr::RefNull(kind) => Ok(applies(scope, s, &[], &[*kind])?),
+        Instr::RefIsNull => Ok(ref_is_null(scope, s)?),
         Instr::RefFunc(x) => Ok(ref_func(scope, *x, s)?),
-        Instr::Discard => Ok(discard(s)),
-        Instr::Select => Ok(select(s)?),
-        Instr::SelectTyped(kinds) => Ok(select_typed(kinds.as_slice(), s)?),
+        Instr::Discard => Ok(discard(scope, s)),
+        Instr::Select => Ok(select(scope, s)?),
+        Instr::SelectTyped(kinds) => Ok(select_typed(scope, kinds.as_slice(), s)?),
         Instr::LocalGet(x) => Ok(local_get(scope, *x, s)?),
         Instr::LocalSet(x) => Ok(local_set(scope, *x, s)?),
         Instr::LocalTee(x) => Ok(local_tee(scope, *x, s)?),
@@ -83,8 +81,8 @@ pub fn acts<'a>(
         Instr::DataDrop(x) => Ok(data_drop(scope, *x, s)?),
         Instr::MemoryCopy => Ok(memory_copy(scope, s)?),
         Instr::MemoryFill => Ok(memory_fill(scope, s)?),
-        Instr::Const32(_) => Ok(applies(s, &[], &[ValType::I32])?),
-        Instr::Const64(_) => Ok(applies(s, &[], &[ValType::I64])?),
-        Instr::Num(op) => Ok(operator(*op, s)?),
+        Instr::Const32(_) => Ok(applies(scope, s, &[], &[ValType::I32])?),
+        Instr::Const64(_) => Ok(applies(scope, s, &[], &[ValType::I64])?),
+        Instr::Num(op) => Ok(operator(scope, *op, s)?),
     }
 }

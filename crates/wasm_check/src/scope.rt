@@ -1,10 +1,13 @@
 // The context of a function's body, as slices of what the module and the function say.
-ghost use Rattle.std.specs.Prelude.{◌≡◌, ◌∷◌, [], MatchOption, None, Some, nat_lt, slice_get};
+ghost use Rattle.std.specs.Prelude.{◌≡◌, MatchOption, None, Some, nat_lt, slice_get, take, true};
 ghost use Rattle.wasm_check.specs.Operators.{arrow};
+ghost use Rattle.type_words.specs.Words.{EndsWith};
+ghost use Rattle.wasm_check.specs.Lists.{listed};
 ghost use Rattle.wasm_check.specs.Contexts.{func_type, block_type};
 ghost use Rattle.wasm_check.specs.Checker.{has_memory as has_memory_in};
 ghost use Rattle.wasm_check.specs.Kept.{context, kept_of};
 
+use crate::lists::{Listed, Lists};
 use crate::locals::Locals;
 use crate::spaces::Spaces;
 use std::marker::Model;
@@ -16,48 +19,76 @@ pub struct Scope<'a> {
     m: &'a Module,
     spaces: &'a Spaces,
     declared: &'a [bool],
-    ty: &'a FuncType,
+    lists: &'a Lists<'a>,
+    ty: u32,
+    own: &'a FuncType,
     locals: &'a Locals<'a>,
 }
 
 impl<'a> Model for Scope<'a> {
+    ghost use Rattle.std.specs.Prelude.{◌≡◌, Some, slice_get};
     ghost use Rattle.wasm_check.specs.Kept.{Kept, kept_of};
 
     ghost Value = { Kept };
 
-    ghost view = { λ s. kept_of s.m.now s.spaces.now s.declared.now s.ty.now s.locals.now };
+    ghost view = { λ s. kept_of s.m.now s.spaces.now s.declared.now s.own.now s.locals.now };
+
+    ghost invariant = { λ s. (s.lists.now ≡ s.m.now.types) × (slice_get s.m.now.types s.ty ≡ Some s.own.now) };
 }
 
 impl<'a> Scope<'a> {
-    /// The context of the body of a function of this type, whose other locals are these.
+    /// The context of the body of a function of the type `own`, which has the number `ty`, whose other locals are these.
     pub fn new(
         m: &'a Module,
         spaces: &'a Spaces,
         declared: &'a [bool],
-        ty: &'a FuncType,
+        lists: &'a Lists<'a>,
+        ty: u32,
+        own: &'a FuncType,
         locals: &'a Locals<'a>,
     ) -> Scope<'a>
-        ensures { result ≡ kept_of m.now spaces.now declared.now ty.now locals.now }
+        requires lists { lists.now ≡ m.now.types }
+        requires own { slice_get m.now.types ty ≡ Some own.now }
+        ensures { result ≡ kept_of m.now spaces.now declared.now own.now locals.now }
     {
         Scope {
             m,
             spaces,
             declared,
+            lists,
             ty,
+            own,
             locals,
         }
     }
 
-    /// The function type of this number.
-    pub fn function_type(&self, x: u32) -> Option<&'a FuncType>
-        ensures { MatchOption result (slice_get self.now.types x ≡ None) (λ t. slice_get self.now.types x ≡ Some t.now) }
+    /// The types of the list.
+    pub fn list(&self, list: Listed) -> &'a [ValType]
+        ensures { result.now ≡ listed self.now.types list }
     {
-        self.m.types.as_slice().get(x as usize)
+        self.lists.get(list)
     }
 
-    /// The type of the function of this number.
-    pub fn function(&self, x: u32) -> Option<&'a FuncType>
-        ensures { MatchOption result (func_type (context self.now) x ≡ None) (λ t. func_type (context self.now) x ≡ Some t.now) }
+    /// Whether the first `count` types of a list end with the first `n` types of another, as far as that is known.
+    pub fn ends_with(&self, longer: Listed, count: usize, shorter: Listed, n: usize) -> bool
+        ensures { result ≡ true → EndsWith (take count (listed self.now.types longer)) (take n (listed self.now.types shorter)) }
+    {
+        self.lists.ends_with(longer, count, shorter, n)
+    }
+
+    /// What the function type of this number takes and gives.
+    pub fn function_type(&self, x: u32) -> Option<(Listed, Listed)>
+        ensures { MatchOption result (slice_get self.now.types x ≡ None) (λ t. slice_get self.now.types x ≡ Some (arrow (listed self.now.types t.0) (listed self.now.types t.1))) }
+    {
+        match self.m.types.as_slice().get(x as usize) {
+            None => None,
+            Some(_) => Some((self.lists.takes(x), self.lists.gives(x))),
+        }
+    }
+
+    /// What the function of this number takes and gives.
+    pub fn function(&self, x: u32) -> Option<(Listed, Listed)>
+        ensures { MatchOption result (func_type (context self.now) x ≡ None) (λ t. func_type (context self.now) x ≡ Some (arrow (listed self.now.types t.0) (listed self.now.types t.1))) }
     {
         match self.spaces.funcs.get(x as usize) {
             None => None,
@@ -66,16 +97,13 @@ impl<'a> Scope<'a> {
     }
 
     /// What a block takes and gives.
-    pub fn block(&self, ty: &'a BlockType) -> Option<(&'a [ValType], &'a [ValType])>
-        ensures { MatchOption result (block_type (context self.now) ty.now ≡ None) (λ t. block_type (context self.now) ty.now ≡ Some (arrow t.0.now t.1.now)) }
+    pub fn block(&self, ty: &BlockType) -> Option<(Listed, Listed)>
+        ensures { MatchOption result (block_type (context self.now) ty.now ≡ None) (λ t. block_type (context self.now) ty.now ≡ Some (arrow (listed self.now.types t.0) (listed self.now.types t.1))) }
     {
         match ty {
-            BlockType::Empty => Some((&[], &[])),
-            BlockType::One(kind) => Some((&[], one(kind))),
-            BlockType::Index(x) => match self.function_type(*x) {
-                None => None,
-                Some(t) => Some((t.params.as_slice(), t.results.as_slice())),
-            },
+            BlockType::Empty => Some((Listed::Nothing, Listed::Nothing)),
+            BlockType::One(kind) => Some((Listed::Nothing, Listed::One(*kind))),
+            BlockType::Index(x) => self.function_type(*x),
         }
     }
 
@@ -129,7 +157,7 @@ impl<'a> Scope<'a> {
         ensures { result ≡ slice_get self.now.locals x }
     {
         let x = x as usize;
-        let params = self.ty.params.as_slice();
+        let params = self.own.params.as_slice();
         if x < params.len() {
             Some(params[x])
         } else {
@@ -137,17 +165,10 @@ impl<'a> Scope<'a> {
         }
     }
 
-    /// The types of the results.
-    pub fn results(&self) -> &'a [ValType]
-        ensures { result.now ≡ self.now.results }
+    /// What the function gives.
+    pub fn results(&self) -> Listed
+        ensures { listed self.now.types result ≡ self.now.results }
     {
-        self.ty.results.as_slice()
+        self.lists.gives(self.ty)
     }
-}
-
-// A slice of one type.
-fn one(kind: &ValType) -> &[ValType]
-    ensures { result.now ≡ kind.now ∷ [] }
-{
-    std::slice::from_ref(kind)
 }

@@ -19,6 +19,7 @@ use wasm_ast::List;
 use wasm_rules::Algebra;
 
 // A branch past l labels, of which the last is the body's.
+#[inline(always)]
 fn jump<A: Algebra>(
     alloc: Global,
     a: &A,
@@ -47,6 +48,7 @@ fn jump<A: Algebra>(
 }
 
 /// `br`.
+#[inline(always)]
 pub fn br<A: Algebra>(
     alloc: Global,
     a: &A,
@@ -62,6 +64,7 @@ pub fn br<A: Algebra>(
 }
 
 /// `br_if`.
+#[inline(always)]
 pub fn br_if<A: Algebra>(
     alloc: Global,
     a: &A,

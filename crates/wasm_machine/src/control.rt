@@ -19,6 +19,7 @@ use wasm_ast::{BlockType, Module};
 use wasm_rules::Algebra;
 
 /// `nop`.
+#[inline(always)]
 pub fn nop<A: Algebra>(a: &A, s: &mut Machine<A::Word>) -> Next<A::Word>
     requires { Ready A.holds A.Has A.means a.now s.old }
     ensures { (m : OneModule) → Acts A.holds A.means A.kind m Instr.Nop a.now s.old a.now s.new result }
@@ -58,6 +59,7 @@ fn block_arities(m: &Module, ty: BlockType) -> Option<Arities>
 }
 
 // Into a block, or into a loop where again.
+#[inline(always)]
 fn open<A: Algebra>(
     a: &A,
     s: &mut Machine<A::Word>,
@@ -93,6 +95,7 @@ fn carried(n: Arities, again: bool) -> usize
 }
 
 /// `block`.
+#[inline(always)]
 pub fn block<A: Algebra>(
     a: &A,
     s: &mut Machine<A::Word>,
@@ -109,6 +112,7 @@ pub fn block<A: Algebra>(
 }
 
 /// `loop`.
+#[inline(always)]
 pub fn repeat<A: Algebra>(
     a: &A,
     s: &mut Machine<A::Word>,
@@ -125,6 +129,7 @@ pub fn repeat<A: Algebra>(
 }
 
 /// `if`.
+#[inline(always)]
 pub fn if_else<A: Algebra>(
     a: &A,
     s: &mut Machine<A::Word>,
@@ -158,6 +163,7 @@ fn by_test(n: u64, at_zero: u32, at_other: u32) -> u32
 }
 
 // Back to the frame that waits, or the end of the run, with the last n operands.
+#[inline(always)]
 pub(crate) fn give_back<A: Algebra>(
     alloc: Global,
     a: &A,
@@ -177,6 +183,7 @@ pub(crate) fn give_back<A: Algebra>(
 }
 
 /// The end of a label, or of a frame, where no instruction is next.
+#[inline(always)]
 pub fn end<A: Algebra>(
     alloc: Global,
     a: &A,

@@ -2,6 +2,9 @@
 //
 // `step` does what one step of the reduction does, at the configuration that a state of the machine stands for: it goes on,
 // waits for a symbol, asks a question of a word, or ends. Bounds, inputs and answers are the affair of whoever runs it.
+//
+// What an instruction says is large to move. So the functions of common instructions, and the moves of the state, are inlined
+// into their callers, which mostly look only at whether it goes on.
 #![tactic(auto)]
 
 pub mod branches;

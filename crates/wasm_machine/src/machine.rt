@@ -118,6 +118,7 @@ fn going_on(again: bool, p: Label) -> Label
 
 impl<W: Copy> Machine<W> {
     /// The function of the frame, by the place among the module's own; none of the outermost frame.
+    #[inline(always)]
     pub fn function(&self) -> Option<u32>
         ensures { result ≡ self.now.frame.func }
     {
@@ -125,6 +126,7 @@ impl<W: Copy> Machine<W> {
     }
 
     /// The next instruction of the function f of the module's own, in its innermost label.
+    #[inline(always)]
     pub fn instruction<'m>(&self, f: u32, m: &'m Module) -> Option<&'m Instr>
         ensures room { IfSome result (λ i. self.now.frame.here.place + 1 < 2 ^ 64) }
         ensures there { MatchOption result (slice_get (code_of m.now self.now.entry (Some f) self.now.frame.here.seq) self.now.frame.here.place ≡ None)
@@ -147,6 +149,7 @@ impl<W: Copy> Machine<W> {
     // ---- operands
 
     /// The operand at a place of the innermost label, the last at 0.
+    #[inline(always)]
     pub fn operand(&self, k: usize) -> Option<Value<W>>
         ensures { result ≡ slice_get (own self.now) k }
     {
@@ -159,6 +162,7 @@ impl<W: Copy> Machine<W> {
     }
 
     /// The word at a place of the innermost label, the last at 0, where it is an i64 if wide, else an i32.
+    #[inline(always)]
     pub fn word(&self, k: usize, wide: bool) -> Option<W>
         ensures { result ≡ word_at wide (own self.now) k }
     {
@@ -179,6 +183,7 @@ impl<W: Copy> Machine<W> {
     }
 
     /// How many operands the innermost label has.
+    #[inline(always)]
     pub fn own_count(&self) -> usize
         ensures { result ≡ length self.now.operands - self.now.frame.here.height }
     {
@@ -186,6 +191,7 @@ impl<W: Copy> Machine<W> {
     }
 
     /// One more operand.
+    #[inline(always)]
     pub fn push(&mut self, v: Value<W>) -> Result<(), AllocError>
         ensures { OnOk result (self.new ≡ pushed v self.old) }
     {
@@ -194,6 +200,7 @@ impl<W: Copy> Machine<W> {
     }
 
     /// An operand in place of the last n.
+    #[inline(always)]
     pub fn replace(&mut self, n: usize, v: Value<W>)
         requires some { 0 < n }
         requires within { n ≤ length self.old.operands }
@@ -205,6 +212,7 @@ impl<W: Copy> Machine<W> {
     }
 
     /// Without the last n operands.
+    #[inline(always)]
     pub fn discard(&mut self, n: usize)
         requires { n ≤ length self.old.operands }
         ensures { self.new ≡ without n self.old }
@@ -240,6 +248,7 @@ impl<W: Copy> Machine<W> {
     }
 
     /// The next instruction is behind, and its unit is spent.
+    #[inline(always)]
     pub fn pass(&mut self)
         requires place { self.old.frame.here.place + 1 < 2 ^ 64 }
         requires units { self.old.units + 1 < 2 ^ 64 }
@@ -251,6 +260,7 @@ impl<W: Copy> Machine<W> {
     }
 
     // Spends a unit, but not in the outermost frame.
+    #[inline(always)]
     fn spend(&mut self)
         requires { self.old.units + 1 < 2 ^ 64 }
         ensures { self.new ≡ record (self.old) { units = self.old.units + cost self.old.callers } }
@@ -261,6 +271,7 @@ impl<W: Copy> Machine<W> {
     }
 
     /// The answers that the next instruction has had.
+    #[inline(always)]
     pub fn given(&self) -> &[u64]
         ensures { result.now ≡ self.now.answers }
     {
@@ -268,6 +279,7 @@ impl<W: Copy> Machine<W> {
     }
 
     /// An answer that the next instruction has had, the first at 0.
+    #[inline(always)]
     pub fn answer(&self, k: usize) -> Option<u64>
         ensures { result ≡ slice_get self.now.answers k }
     {
@@ -275,6 +287,7 @@ impl<W: Copy> Machine<W> {
     }
 
     /// The next instruction's question has had an answer.
+    #[inline(always)]
     pub fn note(&mut self, answer: u64) -> Result<(), AllocError>
         ensures { OnOk result (self.new ≡ noted answer self.old) }
     {
@@ -285,6 +298,7 @@ impl<W: Copy> Machine<W> {
     // ---- variables
 
     /// A local.
+    #[inline(always)]
     pub fn local(&self, x: u32) -> Option<Value<W>>
         requires { self.now.frame.base ≤ length self.now.locals }
         ensures { result ≡ slice_get (drop self.now.frame.base self.now.locals) x }
@@ -293,6 +307,7 @@ impl<W: Copy> Machine<W> {
     }
 
     /// A local is written.
+    #[inline(always)]
     pub fn set_local(&mut self, x: u32, v: Value<W>)
         requires { self.old.frame.base + x < length self.old.locals }
         ensures { self.new ≡ with_local x v self.old }
@@ -301,6 +316,7 @@ impl<W: Copy> Machine<W> {
     }
 
     /// A global.
+    #[inline(always)]
     pub fn global(&self, x: u32) -> Option<Value<W>>
         ensures { result ≡ slice_get self.now.globals x }
     {
@@ -308,6 +324,7 @@ impl<W: Copy> Machine<W> {
     }
 
     /// A global is written.
+    #[inline(always)]
     pub fn set_global(&mut self, x: u32, v: Value<W>)
         requires { x < length self.old.globals }
         ensures { self.new ≡ with_global x v self.old }
@@ -318,6 +335,7 @@ impl<W: Copy> Machine<W> {
     // ---- labels
 
     /// Into a sequence, with the last n operands, by the control instruction that is next.
+    #[inline(always)]
     pub fn enter(&mut self, seq: u32, n: usize, arity: usize, again: bool) -> Result<(), AllocError>
         requires operands { n ≤ length self.old.operands }
         requires units { self.old.units + 1 < 2 ^ 64 }
@@ -338,6 +356,7 @@ impl<W: Copy> Machine<W> {
     }
 
     /// How many labels of the frame wait.
+    #[inline(always)]
     pub fn label_count(&self) -> usize
         ensures { result ≡ length self.now.labels - self.now.frame.labels }
     {
@@ -345,6 +364,7 @@ impl<W: Copy> Machine<W> {
     }
 
     /// The k-th label from the inside, the innermost at 0.
+    #[inline(always)]
     pub fn label(&self, k: usize) -> Label
         requires { k ≤ length self.now.labels }
         ensures { result ≡ from_end self.now.frame.here self.now.labels k }
@@ -356,6 +376,7 @@ impl<W: Copy> Machine<W> {
     }
 
     /// The end of a sequence inside another.
+    #[inline(always)]
     pub fn leave(&mut self)
         requires some { 0 < length self.old.labels }
         requires place { (from_end self.old.frame.here self.old.labels 1).place + 1 < 2 ^ 64 }
@@ -368,6 +389,7 @@ impl<W: Copy> Machine<W> {
     }
 
     /// A branch past k labels, to one that isn't the frame's last.
+    #[inline(always)]
     pub fn branch(&mut self, k: usize)
         requires within { k < length self.old.labels }
         requires room { let t = from_end self.old.frame.here self.old.labels k in t.height + t.arity ≤ length self.old.operands }

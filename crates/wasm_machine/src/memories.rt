@@ -19,6 +19,7 @@ use wasm_ast::{Cause, Module};
 use wasm_rules::{Access, Algebra};
 
 /// A load, by its opcode.
+#[inline(always)]
 pub fn load<A: Algebra, M: Memory<A>>(
     a: &mut A,
     s: &mut Machine<A::Word>,
@@ -48,6 +49,7 @@ pub fn load<A: Algebra, M: Memory<A>>(
 }
 
 /// A store, by its opcode.
+#[inline(always)]
 pub fn store<A: Algebra, M: Memory<A>>(
     a: &mut A,
     s: &mut Machine<A::Word>,

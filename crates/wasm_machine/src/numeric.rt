@@ -21,6 +21,7 @@ use wasm_ast::Cause;
 use wasm_rules::Algebra;
 
 /// `i32.const`.
+#[inline(always)]
 pub fn const32<A: Algebra>(
     a: &mut A,
     s: &mut Machine<A::Word>,
@@ -37,6 +38,7 @@ pub fn const32<A: Algebra>(
 }
 
 /// `i64.const`.
+#[inline(always)]
 pub fn const64<A: Algebra>(
     a: &mut A,
     s: &mut Machine<A::Word>,
@@ -62,6 +64,7 @@ fn is_wide(width: Width) -> bool
 }
 
 /// An operator, by its opcode.
+#[inline(always)]
 pub fn num<A: Algebra>(
     a: &mut A,
     s: &mut Machine<A::Word>,
@@ -87,6 +90,7 @@ pub fn num<A: Algebra>(
 }
 
 // An operator with one operand.
+#[inline(always)]
 fn unary<A: Algebra>(
     a: &mut A,
     s: &mut Machine<A::Word>,
@@ -221,6 +225,7 @@ fn overflow<A: Algebra>(
 }
 
 // An operator with two operands.
+#[inline(always)]
 fn binary<A: Algebra>(
     a: &mut A,
     s: &mut Machine<A::Word>,
@@ -247,6 +252,7 @@ fn binary<A: Algebra>(
 }
 
 // An operator with its two operands.
+#[inline(always)]
 fn apply<A: Algebra>(
     a: &mut A,
     s: &mut Machine<A::Word>,

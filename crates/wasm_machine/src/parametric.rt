@@ -17,6 +17,7 @@ use std::alloc::AllocError;
 use wasm_rules::Algebra;
 
 /// `drop`.
+#[inline(always)]
 pub fn discard<A: Algebra>(a: &A, s: &mut Machine<A::Word>) -> Next<A::Word>
     requires { Ready A.holds A.Has A.means a.now s.old }
     ensures { (m : OneModule) → Acts A.holds A.means A.kind m Instr.Discard a.now s.old a.now s.new result }

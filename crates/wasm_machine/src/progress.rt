@@ -28,6 +28,7 @@ pub enum Progress<W: Copy, P: Drop> {
 }
 
 /// The word at a place of the innermost label, the last at 0, where it is an i64 if wide, else an i32.
+#[inline(always)]
 pub fn word<A: Algebra>(a: &A, s: &Machine<A::Word>, k: usize, wide: bool) -> Option<A::Word>
     requires { Ready A.holds A.Has A.means a.now s.now }
     ensures found { (go : A.Means → List (OneValue A.Means) → Step A.Means) → with_word wide (drop k (own (image (A.means a.now) s.now))) go
@@ -50,6 +51,7 @@ pub fn reference<A: Algebra>(a: &A, s: &Machine<A::Word>, k: usize) -> Option<Re
 
 /// The address, at a place of the innermost label, of an access whose bytes end this far from it, in a memory of so many
 /// bytes.
+#[inline(always)]
 pub fn address_at<A: Algebra>(
     a: &mut A,
     s: &Machine<A::Word>,

@@ -175,6 +175,7 @@ pub fn indexing<A: Algebra>(
 }
 
 /// The address of an access whose bytes end this far from it, in a memory of so many bytes.
+#[inline(always)]
 pub fn addressing<A: Algebra>(
     a: &mut A,
     answers: &[u64],

@@ -11,6 +11,7 @@ use std::alloc::AllocError;
 use wasm_rules::Algebra;
 
 /// `local.get`.
+#[inline(always)]
 pub fn local_get<A: Algebra>(
     a: &A,
     s: &mut Machine<A::Word>,
@@ -30,6 +31,7 @@ pub fn local_get<A: Algebra>(
 }
 
 /// `local.set`.
+#[inline(always)]
 pub fn local_set<A: Algebra>(a: &A, s: &mut Machine<A::Word>, x: u32) -> Next<A::Word>
     requires { Ready A.holds A.Has A.means a.now s.old }
     ensures { (m : OneModule) → Acts A.holds A.means A.kind m (Instr.LocalSet x) a.now s.old a.now s.new result }
@@ -49,6 +51,7 @@ pub fn local_set<A: Algebra>(a: &A, s: &mut Machine<A::Word>, x: u32) -> Next<A:
 }
 
 /// `local.tee`.
+#[inline(always)]
 pub fn local_tee<A: Algebra>(a: &A, s: &mut Machine<A::Word>, x: u32) -> Next<A::Word>
     requires { Ready A.holds A.Has A.means a.now s.old }
     ensures { (m : OneModule) → Acts A.holds A.means A.kind m (Instr.LocalTee x) a.now s.old a.now s.new result }
@@ -67,6 +70,7 @@ pub fn local_tee<A: Algebra>(a: &A, s: &mut Machine<A::Word>, x: u32) -> Next<A:
 }
 
 /// `global.get`.
+#[inline(always)]
 pub fn global_get<A: Algebra>(
     a: &A,
     s: &mut Machine<A::Word>,
@@ -86,6 +90,7 @@ pub fn global_get<A: Algebra>(
 }
 
 /// `global.set`.
+#[inline(always)]
 pub fn global_set<A: Algebra>(a: &A, s: &mut Machine<A::Word>, x: u32) -> Next<A::Word>
     requires { Ready A.holds A.Has A.means a.now s.old }
     ensures { (m : OneModule) → Acts A.holds A.means A.kind m (Instr.GlobalSet x) a.now s.old a.now s.new result }

@@ -6,3 +6,6 @@ pub mod ByteLemmas
 pub mod WrittenLemmas
 pub mod ZeroLemmas
 pub mod PageLemmas
+pub mod QuickLemmas
+pub mod AccessQuickLemmas
+pub mod TestLemmas

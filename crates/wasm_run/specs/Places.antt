@@ -1,12 +1,12 @@
 -- Where the loop of a bounded run stands. No public contract speaks of these.
-use Rattle.std.specs.Prelude.{◌≡◌, ◌≢◌, ℕ, ◌^◌, ◌<◌, ◌≤◌, List, All, map, Bool, false, ◌&&◌, nat_lt, nat_le, length}
+use Rattle.std.specs.Prelude.{◌≡◌, ◌≢◌, ℕ, ◌^◌, ◌<◌, ◌≤◌, List, All, map, Bool, true, false, ◌&&◌, nat_lt, nat_le, length}
 use Rattle.std.specs.List.{AllByRecursion}
 use Rattle.wasm_ast.specs.declared.modules.Module.{Module}
 use Rattle.wasm_ast.specs.declared.runs.Draw.{Draw}
 use Rattle.wasm_ast.specs.declared.runs.Value.{Value}
 use Rattle.wasm_rules.specs.Words.{HasNumber, numbers}
 use Rattle.wasm_check.specs.Modules.{IsValid}
-use Rattle.wasm_reduction.specs.Configurations.{Config, Next, Stuck}
+use Rattle.wasm_reduction.specs.Configurations.{Config, End, Next, Goes, Ends, Stuck}
 use Rattle.wasm_reduction.specs.Steps.{step}
 use Rattle.wasm_reduction.specs.Runs.{Trace, Going, On, Over, Ended, follows, by_value, runs_at, draws_from, is_due, most_frames}
 use Rattle.wasm_reduction.specs.Widths.{HasNumbers, ArgumentFits, HasWidths}
@@ -82,3 +82,19 @@ IsInOrderAfter a s cells (CodeEnds e) = Unit {0}
 -- what the machine says, as the reduction says it
 abbrev pub told_at : Module → List ℕ → State (CodeValue ℕ) → CodeNext ℕ → Next ℕ
 told_at m cells s x = told (λ n. n) m (map (λ n. n) cells) s x
+
+-- ---- instructions that are carried out at once
+
+-- no answers lead from c to where the standard has no rule
+abbrev pub IsNeverStuck : Module → ℕ → Config ℕ → Type 0
+IsNeverStuck m steps c = (e : End ℕ) → Settled m steps c (Ends e) → e ≢ Stuck
+
+-- The instruction that was next in c has been carried out, and the run goes on from the state s and these cells.
+pub record WentOn {A : Type 0} (m : Module) (steps : ℕ) (c : Config ℕ) (a : A) (s : State (CodeValue ℕ)) (cells : List ℕ) : Type 0 where
+  pub settled : Settled m steps c (Goes (config_at m cells s))
+  pub order : IsInOrder a s cells
+
+-- whether it has been carried out; else the state t and the cells d are the s and b that there were
+abbrev pub IsAtOnce : {A : Type 0} → Bool → Module → ℕ → State (CodeValue ℕ) → List ℕ → A → State (CodeValue ℕ) → List ℕ → Type 0
+IsAtOnce true m steps s b a t d = WentOn m steps (config_at m b s) a t d
+IsAtOnce false m steps s b a t d = (t ≡ s) × (d ≡ b)

@@ -9,6 +9,7 @@ mod accesses;
 mod bounded;
 mod bytes;
 mod page;
+mod quick;
 mod turns;
 
 pub use bounded::run;

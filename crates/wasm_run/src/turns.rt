@@ -14,6 +14,7 @@ ghost use Rattle.wasm_run.specs.Bounded.{RunGives};
 ghost use Rattle.wasm_run.specs.Places.{IsAsked, IsInOrder, IsInOrderAfter, config_at, told_at, Place, IsFit, Settled};
 
 use crate::bytes::Bytes;
+use crate::quick::at_once;
 use std::alloc::{AllocError, Global};
 use wasm_ast::{Draw, List, Module, Outcome, Ran, Value};
 use wasm_image::Image;
@@ -63,6 +64,9 @@ pub fn go(
                 draws: List::new(draws),
             });
         }
+        if at_once(alloc, request.image, request.steps, numbers, s, memory)? {
+            continue 'turning;
+        }
         match settle(alloc, request.image, request.steps, numbers, s, memory)? {
             Next::Goes => continue 'turning,
             Next::Draws(wide) => {
@@ -101,6 +105,8 @@ fn is_spent(s: &Machine<u64>, m: &Module, steps: u64) -> bool
 }
 
 // Whether an instruction of a function is next.
+#[cold]
+#[inline(never)]
 fn is_due(s: &Machine<u64>, m: &Module) -> bool
     ensures { (bytes : Items ℕ) → result ≡ is_due_at (config_at m.now bytes s.now).frame.here.code (config_at m.now bytes s.now).callers }
 {
@@ -121,6 +127,8 @@ fn outer_calls(m: &Module) -> usize
 }
 
 // Answers what the next instruction asks, and carries out its last step.
+#[cold]
+#[inline(never)]
 fn settle(
     alloc: Global,
     image: &Image,

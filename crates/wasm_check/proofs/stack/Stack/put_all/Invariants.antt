@@ -1,7 +1,8 @@
 use Rattle.std.proofs.Common.{◌≡◌, take}
 use Rattle.wasm_check.specs.Operands.{operands}
 use Rattle.wasm_check.specs.Checker.{onto}
+use Rattle.wasm_check.specs.Runs.{known}
 use Rattle.wasm_check.proofs.stack.Stack.put_all.Given as goal
 
 abbrev pub invariant-loop-t : goal.invariant-loop-t
-invariant-loop-t l = l.self ≡ onto (operands (take l.t-index l.types)) l.fn.self
+invariant-loop-t l = known l.scope.types l.self ≡ onto (operands (take l.t-index l.types)) (known l.scope.types l.fn.self)

@@ -1,0 +1,63 @@
+-- Laws of the names of lists, as they are collected one function type after another.
+use Rattle.std.proofs.Common.{◌≡◌, ℕ, zero, suc, ◌+◌, List, [], ◌∷◌, ◌++◌, length, refl, ap, ◌∙◌, subst}
+use Rattle.std.specs.Prelude.{Option, Some, None, IfSome, slice_get}
+use Rattle.std.proofs.lemmas.List.{length-append}
+use Rattle.wasm_ast.specs.declared.types.ValType.{ValType}
+use Rattle.wasm_ast.specs.declared.types.FuncType.{FuncType}
+use Rattle.type_words.specs.Words.{Keeps}
+use Rattle.wasm_check.specs.declared.lists.Listed.{Listed}
+use Rattle.wasm_check.specs.declared.lists.Listed.TheVariants.{Takes, Gives}
+use Rattle.wasm_check.specs.Lists.{listed, AreNames, AreAmong}
+
+-- what holds of each item, by its place, and of one more
+each-push : {X : Type 0} (P : ℕ → X → Type 0) (xs : List X) (x : X) → ((j : ℕ) (y : X) → slice_get xs j ≡ Some y → P j y) → P (length xs) x → (j : ℕ) (y : X) → slice_get (xs ++ x ∷ []) j ≡ Some y → P j y
+each-push P [] x holds here zero y at = let same : x ≡ y = cc in subst (P zero) same here
+each-push P [] x holds here (suc j) y at = absurd cc
+each-push P (z ∷ zs) x holds here zero y at = holds zero y at
+each-push P (z ∷ zs) x holds here (suc j) y at = each-push (λ i. P (suc i)) zs x (λ i. holds (suc i)) here j y at
+
+-- the names so far, of the first x function types, and which of the long lists they are
+pub record Naming (types : List FuncType) (x : ℕ) (takes gives : List Listed) (all : List (List ValType)) (taken given : List (Option ℕ)) : Type 0 where
+  pub takes_long : length takes ≡ x
+  pub gives_long : length gives ≡ x
+  pub taken_long : length taken ≡ x
+  pub given_long : length given ≡ x
+  pub of_takes : AreNames types (λ x. Takes x) takes
+  pub of_gives : AreNames types (λ x. Gives x) gives
+  pub of_taken : AreAmong types all (λ x. Takes x) taken
+  pub of_given : AreAmong types all (λ x. Gives x) given
+
+names-push : (types : List FuncType) (name : ℕ → Listed) (items : List Listed) (first : Listed) (x : ℕ) → length items ≡ x → AreNames types name items → listed types first ≡ listed types (name x) → AreNames types name (items ++ first ∷ [])
+names-push types name items first x long names is = each-push (λ j y. listed types y ≡ listed types (name j)) items first names (rw long is)
+
+if-some : (P : ℕ → Type 0) (o : Option ℕ) (k : ℕ) → IfSome o P → o ≡ Some k → P k
+if-some P None k h is = absurd cc
+if-some P (Some j) k h is = let same : j ≡ k = cc in subst P same h
+
+among-push : (types : List FuncType) (all : List (List ValType)) (name : ℕ → Listed) (items : List (Option ℕ)) (o : Option ℕ) (x : ℕ) → length items ≡ x → AreAmong types all name items → IfSome o (λ k. slice_get all k ≡ Some (listed types (name x))) →
+    AreAmong types all name (items ++ o ∷ [])
+among-push types all name items o x long among is = λ j k at.
+    each-push (λ j (y : Option ℕ). (k : ℕ) → y ≡ Some k → slice_get all k ≡ Some (listed types (name j))) items o
+    (λ j y there k same. among j k (there ∙ ap (λ (p : Option ℕ). Some p) same)) (λ k same. rw long (if-some (λ k. slice_get all k ≡ Some (listed types (name x))) o k is same)) j (Some k) at k refl
+
+among-keep : (types : List FuncType) (all new : List (List ValType)) (name : ℕ → Listed) (items : List (Option ℕ)) → Keeps all new → AreAmong types all name items → AreAmong types new name items
+among-keep types all new name items keeps among = λ x k at. keeps k (listed types (name x)) (among x k at)
+
+one-more : {X : Type 0} (xs : List X) (x : X) (n : ℕ) → length xs ≡ n → length (xs ++ x ∷ []) ≡ n + 1
+one-more xs x n long = length-append xs (x ∷ []) ∙ ap (λ k. k + 1) long
+
+pub naming-more : (types : List FuncType) (x : ℕ) (takes gives : List Listed) (all then new : List (List ValType)) (taken given : List (Option ℕ)) (t g : Listed) (u v : Option ℕ)
+    (takes' gives' : List Listed) (taken' given' : List (Option ℕ)) → takes' ≡ takes ++ t ∷ [] → gives' ≡ gives ++ g ∷ [] → taken' ≡ taken ++ u ∷ [] → given' ≡ given ++ v ∷ [] →
+    listed types t ≡ listed types (Takes x) → listed types g ≡ listed types (Gives x) → Keeps all then → Keeps then new →
+    IfSome u (λ k. slice_get then k ≡ Some (listed types (Takes x))) → IfSome v (λ k. slice_get new k ≡ Some (listed types (Gives x))) →
+    Naming types x takes gives all taken given → Naming types (x + 1) takes' gives' new taken' given'
+naming-more types x takes gives all then new taken given t g u v takes' gives' taken' given' et eg eu ev st sg keeps again su sv n = rw (et, eg, eu, ev) (record {
+  takes_long = one-more takes t x n.takes_long;
+  gives_long = one-more gives g x n.gives_long;
+  taken_long = one-more taken u x n.taken_long;
+  given_long = one-more given v x n.given_long;
+  of_takes = names-push types (λ x. Takes x) takes t x n.takes_long n.of_takes st;
+  of_gives = names-push types (λ x. Gives x) gives g x n.gives_long n.of_gives sg;
+  of_taken = among-keep types then new (λ x. Takes x) (taken ++ u ∷ []) again (among-push types then (λ x. Takes x) taken u x n.taken_long (among-keep types all then (λ x. Takes x) taken keeps n.of_taken) su);
+  of_given = among-push types new (λ x. Gives x) given v x n.given_long (among-keep types all new (λ x. Gives x) given (λ k ts at. again k ts (keeps k ts at)) n.of_given) sv;
+})

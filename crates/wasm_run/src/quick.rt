@@ -1,0 +1,290 @@
+// Common instructions, carried out at once.
+//
+// What a step says is large to move, and each question is a step of its own. Here the functions of the machine are called where
+// it is known that they go on, and with the answers that their questions will have.
+ghost use Rattle.std.specs.Prelude.{◌≡◌, ◌+◌, ◌<◌, ◌^◌, ℕ, [], IfOk, None, Some, true, length, nat_le, slice_get};
+ghost use Rattle.wasm_ast.specs.declared.instructions.Instr.{Instr as OneInstr};
+ghost use Rattle.wasm_machine.specs.Acts.{IsNext};
+ghost use Rattle.wasm_machine.specs.Configurations.{code_of};
+ghost use Rattle.wasm_machine.specs.declared.next.Next.TheVariants.{Goes as CodeGoes};
+ghost use Rattle.wasm_run.specs.Places.{IsAtOnce, IsFit, IsInOrder, IsNeverStuck, config_at};
+
+use crate::bytes::Bytes;
+use std::alloc::{AllocError, Global};
+use wasm_ast::{BlockType, Instr, Module};
+use wasm_image::Image;
+use wasm_machine::branches::{br, br_if};
+use wasm_machine::control::{block, end, if_else, nop, repeat};
+use wasm_machine::machine::Machine;
+use wasm_machine::memories::{load, store};
+use wasm_machine::memory::Memory;
+use wasm_machine::next::Next;
+use wasm_machine::numeric::{const32, const64, num};
+use wasm_machine::parametric::discard;
+use wasm_machine::variables::{global_get, global_set, local_get, local_set, local_tee};
+use wasm_rules::{Access, Numbers};
+
+// That it goes on, where that is known.
+#[inline(always)]
+fn went(x: Next<u64>) -> bool
+    requires { x ≡ CodeGoes }
+    ensures { result ≡ true }
+{
+    match x {
+        Next::Goes => true,
+        _ => unreachable!(),
+    }
+}
+
+/// Carries out the next instruction, or the end of a label, where it is a common one. The answer is whether it was; else
+/// nothing has changed.
+#[inline(always)]
+pub fn at_once(
+    alloc: Global,
+    image: &Image,
+    steps: u64,
+    numbers: &mut Numbers,
+    s: &mut Machine<u64>,
+    memory: &mut Bytes,
+) -> Result<bool, AllocError>
+    requires order { IsInOrder numbers.old s.old memory.old }
+    requires fit { IsFit steps (config_at image.now memory.old s.old) }
+    requires steps { steps < 2 ^ 63 }
+    requires sound { IsNeverStuck image.now steps (config_at image.now memory.old s.old) }
+    ensures { IfOk result (λ b. IsAtOnce b image.now steps s.old memory.old numbers.new s.new memory.new) }
+{
+    if !s.given().is_empty() {
+        return Ok(false);
+    }
+    let m = image.module();
+    match s.function() {
+        None => Ok(false),
+        Some(f) => match s.instruction(f, m) {
+            None => Ok(leave(alloc, m, steps, numbers, s, memory)?),
+            Some(i) => match i {
+                Instr::BrIf(l) => Ok(test_branch(alloc, m, steps, numbers, s, memory, *l)?),
+                Instr::If { ty, then, other } => Ok(test_block(
+                    m, steps, numbers, s, memory, *ty, *then, *other,
+                )?),
+                Instr::Load {
+                    op,
+                    align: _,
+                    offset,
+                } => Ok(load_within(m, steps, numbers, s, memory, *op, *offset)?),
+                Instr::Store {
+                    op,
+                    align: _,
+                    offset,
+                } => Ok(store_within(m, steps, numbers, s, memory, *op, *offset)?),
+                _ => Ok(straight(alloc, m, steps, numbers, s, memory, i)?),
+            },
+        },
+    }
+}
+
+// The end of a label inside another.
+#[inline(always)]
+fn leave(
+    alloc: Global,
+    m: &Module,
+    steps: u64,
+    numbers: &mut Numbers,
+    s: &mut Machine<u64>,
+    memory: &Bytes,
+) -> Result<bool, AllocError>
+    requires order { IsInOrder numbers.old s.old memory.now }
+    requires fit { IsFit steps (config_at m.now memory.now s.old) }
+    requires steps { steps < 2 ^ 63 }
+    requires sound { IsNeverStuck m.now steps (config_at m.now memory.now s.old) }
+    requires first { s.old.answers ≡ [] }
+    requires over { slice_get (code_of m.now s.old.entry s.old.frame.func s.old.frame.here.seq) s.old.frame.here.place ≡ None }
+    requires inside { (f : ℕ) × (s.old.frame.func ≡ Some f) }
+    ensures { IfOk result (λ b. IsAtOnce b m.now steps s.old memory.now numbers.new s.new memory.now) }
+{
+    if s.label_count() == 0 {
+        return Ok(false);
+    }
+    Ok(went(end(alloc, numbers, s)?))
+}
+
+// An instruction that asks nothing, or whose questions are left to be asked.
+#[inline(always)]
+fn straight(
+    alloc: Global,
+    m: &Module,
+    steps: u64,
+    numbers: &mut Numbers,
+    s: &mut Machine<u64>,
+    memory: &Bytes,
+    i: &Instr,
+) -> Result<bool, AllocError>
+    requires order { IsInOrder numbers.old s.old memory.now }
+    requires fit { IsFit steps (config_at m.now memory.now s.old) }
+    requires steps { steps < 2 ^ 63 }
+    requires sound { IsNeverStuck m.now steps (config_at m.now memory.now s.old) }
+    requires first { s.old.answers ≡ [] }
+    requires place { s.old.frame.here.place + 1 < 2 ^ 64 }
+    requires next { IsNext m.now s.old i.now }
+    ensures { IfOk result (λ b. IsAtOnce b m.now steps s.old memory.now numbers.new s.new memory.now) }
+{
+    match i {
+        Instr::Nop => Ok(went(nop(numbers, s))),
+        Instr::Block { ty, body } => Ok(went(block(numbers, s, m, *ty, *body)?)),
+        Instr::Loop { ty, body } => Ok(went(repeat(numbers, s, m, *ty, *body)?)),
+        Instr::Br(l) => {
+            if *l as usize >= s.label_count() {
+                return Ok(false);
+            }
+            Ok(went(br(alloc, numbers, s, *l)?))
+        }
+        Instr::Discard => Ok(went(discard(numbers, s))),
+        Instr::LocalGet(x) => Ok(went(local_get(numbers, s, *x)?)),
+        Instr::LocalSet(x) => Ok(went(local_set(numbers, s, *x))),
+        Instr::LocalTee(x) => Ok(went(local_tee(numbers, s, *x))),
+        Instr::GlobalGet(x) => Ok(went(global_get(numbers, s, *x)?)),
+        Instr::GlobalSet(x) => Ok(went(global_set(numbers, s, *x))),
+        Instr::Const32(n) => Ok(went(const32(numbers, s, *n)?)),
+        Instr::Const64(n) => Ok(went(const64(numbers, s, *n)?)),
+        Instr::Num(op) => match num(numbers, s, *op)? {
+            Next::Goes => Ok(true),
+            Next::Asks(_, _) => Ok(false),
+            _ => unreachable!(),
+        },
+        _ => Ok(false),
+    }
+}
+
+// `br_if` to a label that isn't the last of its frame.
+#[inline(always)]
+fn test_branch(
+    alloc: Global,
+    m: &Module,
+    steps: u64,
+    numbers: &mut Numbers,
+    s: &mut Machine<u64>,
+    memory: &Bytes,
+    l: u32,
+) -> Result<bool, AllocError>
+    requires order { IsInOrder numbers.old s.old memory.now }
+    requires fit { IsFit steps (config_at m.now memory.now s.old) }
+    requires steps { steps < 2 ^ 63 }
+    requires sound { IsNeverStuck m.now steps (config_at m.now memory.now s.old) }
+    requires first { s.old.answers ≡ [] }
+    requires place { s.old.frame.here.place + 1 < 2 ^ 64 }
+    requires next { IsNext m.now s.old (OneInstr.BrIf l) }
+    ensures { IfOk result (λ b. IsAtOnce b m.now steps s.old memory.now numbers.new s.new memory.now) }
+{
+    if l as usize >= s.label_count() {
+        return Ok(false);
+    }
+    let Some(w) = s.word(0, false) else {
+        return Ok(false);
+    };
+    s.note((w != 0) as u64)?;
+    Ok(went(br_if(alloc, numbers, s, l)?))
+}
+
+// `if`
+#[inline(always)]
+fn test_block(
+    m: &Module,
+    steps: u64,
+    numbers: &mut Numbers,
+    s: &mut Machine<u64>,
+    memory: &Bytes,
+    ty: BlockType,
+    then: u32,
+    other: u32,
+) -> Result<bool, AllocError>
+    requires order { IsInOrder numbers.old s.old memory.now }
+    requires fit { IsFit steps (config_at m.now memory.now s.old) }
+    requires steps { steps < 2 ^ 63 }
+    requires sound { IsNeverStuck m.now steps (config_at m.now memory.now s.old) }
+    requires first { s.old.answers ≡ [] }
+    requires place { s.old.frame.here.place + 1 < 2 ^ 64 }
+    requires next { IsNext m.now s.old (OneInstr.If ty then other) }
+    ensures { IfOk result (λ b. IsAtOnce b m.now steps s.old memory.now numbers.new s.new memory.now) }
+{
+    let Some(w) = s.word(0, false) else {
+        return Ok(false);
+    };
+    s.note((w != 0) as u64)?;
+    Ok(went(if_else(numbers, s, m, ty, then, other)?))
+}
+
+// Whether the bytes of an access at this address and offset lie in the memory.
+#[inline(always)]
+fn is_within(memory: &Bytes, at: u64, offset: u32, access: Access) -> bool
+    requires { at < 2 ^ 32 }
+    ensures { result ≡ nat_le (at + (offset + access.bytes)) (length memory.now) }
+{
+    at + u64::from(offset) + u64::from(access.bytes) <= memory.length()
+}
+
+// A load within the memory.
+#[inline(always)]
+fn load_within(
+    m: &Module,
+    steps: u64,
+    numbers: &mut Numbers,
+    s: &mut Machine<u64>,
+    memory: &Bytes,
+    op: u8,
+    offset: u32,
+) -> Result<bool, AllocError>
+    requires order { IsInOrder numbers.old s.old memory.now }
+    requires fit { IsFit steps (config_at m.now memory.now s.old) }
+    requires steps { steps < 2 ^ 63 }
+    requires sound { IsNeverStuck m.now steps (config_at m.now memory.now s.old) }
+    requires first { s.old.answers ≡ [] }
+    requires place { s.old.frame.here.place + 1 < 2 ^ 64 }
+    requires next { (align : ℕ) × IsNext m.now s.old (OneInstr.Load op align offset) }
+    ensures { IfOk result (λ b. IsAtOnce b m.now steps s.old memory.now numbers.new s.new memory.now) }
+{
+    let Some(access) = Access::load(op) else {
+        return Ok(false);
+    };
+    let Some(w) = s.word(0, false) else {
+        return Ok(false);
+    };
+    if !is_within(memory, w, offset, access) {
+        return Ok(false);
+    }
+    s.note(0)?;
+    s.note(w)?;
+    Ok(went(load(numbers, s, memory, op, offset)?))
+}
+
+// A store within the memory.
+#[inline(always)]
+fn store_within(
+    m: &Module,
+    steps: u64,
+    numbers: &mut Numbers,
+    s: &mut Machine<u64>,
+    memory: &mut Bytes,
+    op: u8,
+    offset: u32,
+) -> Result<bool, AllocError>
+    requires order { IsInOrder numbers.old s.old memory.old }
+    requires fit { IsFit steps (config_at m.now memory.old s.old) }
+    requires steps { steps < 2 ^ 63 }
+    requires sound { IsNeverStuck m.now steps (config_at m.now memory.old s.old) }
+    requires first { s.old.answers ≡ [] }
+    requires place { s.old.frame.here.place + 1 < 2 ^ 64 }
+    requires next { (align : ℕ) × IsNext m.now s.old (OneInstr.Store op align offset) }
+    ensures { IfOk result (λ b. IsAtOnce b m.now steps s.old memory.old numbers.new s.new memory.new) }
+{
+    let Some(access) = Access::store(op) else {
+        return Ok(false);
+    };
+    let Some(w) = s.word(1, false) else {
+        return Ok(false);
+    };
+    if !is_within(memory, w, offset, access) {
+        return Ok(false);
+    }
+    s.note(0)?;
+    s.note(w)?;
+    Ok(went(store(numbers, s, memory, op, offset)?))
+}
