@@ -1,0 +1,176 @@
+#!/usr/bin/env python3
+"""validate.py PROGRAM [TIMES]
+
+Makes large modules, validates each by PROGRAM and by wabt's `wasm-validate`, in turn, TIMES times (3 if left out), and prints
+the least processor time of each in seconds and the most memory in MB. A time of `wasm-validate` above a minute is cut off.
+"""
+
+import os
+import random
+import subprocess
+import sys
+import tempfile
+
+I32, I64 = 0x7F, 0x7E
+
+
+def number(n):
+    """An unsigned LEB128."""
+    out = bytearray()
+    while True:
+        out.append(n & 0x7F | (0x80 if n > 0x7F else 0))
+        n >>= 7
+        if not n:
+            return bytes(out)
+
+
+def signed(n):
+    """A signed LEB128 of a number that isn't negative, as block types are written."""
+    out = bytearray()
+    while n > 0x3F:
+        out.append(n & 0x7F | 0x80)
+        n >>= 7
+    out.append(n)
+    return bytes(out)
+
+
+def vector(items):
+    return number(len(items)) + b"".join(items)
+
+
+def sized(content):
+    return number(len(content)) + content
+
+
+def function_type(params, results):
+    return b"\x60" + vector([bytes([t]) for t in params]) + vector([bytes([t]) for t in results])
+
+
+def module(types, functions, bodies, memory=True):
+    """A module of these types, functions by the numbers of their types, and bodies with their locals."""
+    sections = [(1, vector(types)), (3, vector([number(t) for t in functions]))]
+    if memory:
+        sections.append((5, vector([b"\x00\x01"])))
+    sections.append((10, vector([sized(body) for body in bodies])))
+    return b"\0asm\x01\0\0\0" + b"".join(bytes([at]) + sized(content) for at, content in sections)
+
+
+def straight(rng, count):
+    """Code as compilers write it: locals, constants, operators, loads, stores, blocks, branches, calls. It leaves no operand."""
+    out = bytearray()
+    for _ in range(count):
+        local = number(rng.randrange(6))
+        kind = rng.randrange(8)
+        if kind < 3:
+            out += b"\x20" + local + b"\x41" + number(rng.randrange(64)) + bytes([rng.choice([0x6A, 0x6B, 0x71, 0x73])]) + b"\x21" + local
+        elif kind == 3:
+            out += b"\x20" + local + b"\x28\x02" + number(rng.randrange(1000)) + b"\x21" + local
+        elif kind == 4:
+            out += b"\x20" + local + b"\x20\x00\x36\x02" + number(rng.randrange(1000))
+        elif kind == 5:
+            out += b"\x02\x40\x20" + local + b"\x0d\x00\x20" + local + b"\x21\x01\x0b"
+        elif kind == 6:
+            out += b"\x03\x40\x20" + local + b"\x41\x01\x6b\x22" + local + b"\x0d\x00\x0b"
+        else:
+            out += b"\x20" + local + b"\x20\x01\x10" + number(rng.randrange(1000)) + b"\x21" + local
+    return bytes(out)
+
+
+def code(size):
+    """Functions of real code shape, of about so many bytes together."""
+    rng = random.Random(1)
+    types = [function_type([I32, I32], [I32])]
+    bodies, total = [], 0
+    while total < size or len(bodies) < 1000:
+        body = vector([b"\x04\x7f"]) + straight(rng, rng.randrange(20, 200)) + b"\x20\x00\x0b"
+        bodies.append(body)
+        total += len(body)
+    return module(types, [0] * len(bodies), bodies)
+
+
+def one(types, body, own=0):
+    return module(types, [own], [vector([]) + body + b"\x0b"], memory=False)
+
+
+def pushes(n):
+    return b"\x41\x00" * n
+
+
+NOTHING = function_type([], [])
+
+
+def nested(depth):
+    return one([NOTHING], b"\x02\x40" * depth + b"\x0b" * depth)
+
+
+def labels(count, width):
+    """A `br_table` of so many labels that carry so many values each."""
+    types = [NOTHING, function_type([], [I32] * width)]
+    table = b"\x0e" + vector([number(k % 2) for k in range(count)]) + number(0)
+    return one(types, b"\x02\x01\x02\x01" + pushes(width) + b"\x41\x00" + table + b"\x0b\x0b" + b"\x1a" * width)
+
+
+def blocks(count, width):
+    """Blocks one after another that take and give so many values."""
+    types = [NOTHING, function_type([I32] * width, [I32] * width)]
+    return one(types, pushes(width) + b"\x02\x01\x0b" * count + b"\x1a" * width)
+
+
+def overlaps(count, pattern):
+    """Blocks one after another, of 1,000 types whose lists begin alike and end in one another."""
+    lists = [(pattern * 2_000)[: 2 * n] for n in range(500, 1_500)]
+    rng = random.Random(1)
+    types = [NOTHING] + [function_type(types, types) for types in lists]
+    values = b"".join(b"\x41\x00" if t == I32 else b"\x42\x00" for t in lists[-1])
+    body = b"".join(b"\x02" + signed(rng.randrange(1_000) + 1) + b"\x0b" for _ in range(count))
+    return one(types, values + body + b"\x1a" * len(lists[-1]))
+
+
+MODULES = [
+    ("16 MB of code", lambda: code(16_000_000)),
+    ("100,000 nested blocks", lambda: nested(100_000)),
+    ("a million labels", lambda: labels(1_000_000, 1)),
+    ("a million labels of 1,000 values", lambda: labels(1_000_000, 1_000)),
+    ("200,000 blocks of 1,000 values", lambda: blocks(200_000, 1_000)),
+    ("100,000 blocks of lists of one type", lambda: overlaps(100_000, [I32, I32])),
+    ("100,000 blocks of lists of two types", lambda: overlaps(100_000, [I32, I64])),
+]
+
+
+def timed(words, source):
+    """The processor time and the memory of a command, and what it writes."""
+    with open(source, "rb") as file, tempfile.TemporaryFile() as log:
+        try:
+            done = subprocess.run(["/usr/bin/time", "-f", "%U %M", *words], stdin=file, stdout=log, stderr=subprocess.PIPE, timeout=60)
+        except subprocess.TimeoutExpired:
+            return 60.0, 0.0, ""
+        log.seek(0)
+        time, memory = done.stderr.split()[-2:]
+        return float(time), int(memory) / 1024, log.read().decode()
+
+
+def main():
+    if len(sys.argv) < 2:
+        sys.exit("usage: validate.py PROGRAM [TIMES]")
+    program = os.path.abspath(sys.argv[1])
+    times = int(sys.argv[2]) if len(sys.argv) > 2 else 3
+    with tempfile.TemporaryDirectory() as folder:
+        source = os.path.join(folder, "module.wasm")
+        for name, make in MODULES:
+            with open(source, "wb") as file:
+                file.write(make())
+            ours, theirs = [], []
+            for _ in range(times):
+                ours.append(timed([program, "validate"], source))
+                theirs.append(timed(["wasm-validate", source], source))
+            if ours[0][2] != "valid\n":
+                sys.exit("%s: %r" % (name, ours[0][2]))
+            print(
+                "%-42s %5.1f MB: owi %.2f s, %d MB; wasm-validate %.2f s, %d MB"
+                % (name, os.path.getsize(source) / 1e6, min(ours)[0], min(ours)[1], min(theirs)[0], min(theirs)[1]),
+                flush=True,
+            )
+
+
+if __name__ == "__main__":
+    main()
