@@ -126,6 +126,15 @@ def overlaps(count, pattern):
     return one(types, values + body + b"\x1a" * len(lists[-1]))
 
 
+def unreached(n):
+    """`br_table`s in code that isn't reached: n / 2 of them, each of n labels of different lists, above n known operands."""
+    lists = [[I64 if k >> bit & 1 else I32 for bit in range(12)] + [I32] * n for k in range(n)]
+    types = [NOTHING] + [function_type([], results) for results in lists]
+    opens = b"".join(b"\x02" + signed(k + 1) for k in range(n))
+    table = b"\x0e" + vector([number(k) for k in range(n)]) + number(0)
+    return one(types, opens + (b"\x00" + pushes(n) + b"\x41\x00" + table) * (n // 2) + b"\x0b\x00" * n)
+
+
 MODULES = [
     ("16 MB of code", lambda: code(16_000_000)),
     ("100,000 nested blocks", lambda: nested(100_000)),
@@ -134,6 +143,8 @@ MODULES = [
     ("200,000 blocks of 1,000 values", lambda: blocks(200_000, 1_000)),
     ("100,000 blocks of lists of one type", lambda: overlaps(100_000, [I32, I32])),
     ("100,000 blocks of lists of two types", lambda: overlaps(100_000, [I32, I64])),
+    ("250 br_tables that aren't reached", lambda: unreached(500)),
+    ("500 br_tables that aren't reached", lambda: unreached(1_000)),
 ]
 
 
@@ -146,7 +157,7 @@ def timed(words, source):
             return 60.0, 0.0, ""
         log.seek(0)
         time, memory = done.stderr.split()[-2:]
-        return float(time), int(memory) / 1024, log.read().decode()
+        return float(time), int(memory) * 1024 / 1e6, log.read().decode()
 
 
 def main():
