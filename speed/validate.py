@@ -126,13 +126,14 @@ def overlaps(count, pattern):
     return one(types, values + body + b"\x1a" * len(lists[-1]))
 
 
-def unreached(n):
-    """`br_table`s in code that isn't reached: n / 2 of them, each of n labels of different lists, above n known operands."""
+def unreached(n, lowest=b""):
+    """`br_table`s in code that isn't reached: n / 2 of them, each of n labels of different lists, above n known operands.
+    What the code begins with may leave another one, whose type isn't known, below them."""
     lists = [[I64 if k >> bit & 1 else I32 for bit in range(12)] + [I32] * n for k in range(n)]
     types = [NOTHING] + [function_type([], results) for results in lists]
     opens = b"".join(b"\x02" + signed(k + 1) for k in range(n))
     table = b"\x0e" + vector([number(k) for k in range(n)]) + number(0)
-    return one(types, opens + (b"\x00" + pushes(n) + b"\x41\x00" + table) * (n // 2) + b"\x0b\x00" * n)
+    return one(types, opens + (b"\x00" + lowest + pushes(n) + b"\x41\x00" + table) * (n // 2) + b"\x0b\x00" * n)
 
 
 MODULES = [
@@ -145,6 +146,8 @@ MODULES = [
     ("100,000 blocks of lists of two types", lambda: overlaps(100_000, [I32, I64])),
     ("250 br_tables that aren't reached", lambda: unreached(500)),
     ("500 br_tables that aren't reached", lambda: unreached(1_000)),
+    ("250 br_tables above a select", lambda: unreached(500, b"\x1b")),
+    ("500 br_tables above a select", lambda: unreached(1_000, b"\x1b")),
 ]
 
 

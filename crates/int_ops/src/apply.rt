@@ -9,6 +9,7 @@ use crate::values::{is_division, value_by_zero, value_of_one, value_of_two};
 /// What the operator of a unary opcode gives of x.
 ///
 /// Source: Execution, Numerics: Integer Operations, Conversions.
+#[inline(always)]
 pub fn un(op: u8, x: u64) -> u64
     requires unary { IsTrue (is_unary op) }
     requires in_width { x < 2 ^ operand_bits op }
@@ -54,6 +55,7 @@ pub fn bin(op: u8, x: u64, y: u64) -> Result<u64, Trap>
 /// x, 1; a remainder by 0 is x; the least number by -1 is the least.
 ///
 /// Source: SMT-LIB's theory of bit-vectors.
+#[inline(always)]
 pub fn total(op: u8, x: u64, y: u64) -> u64
     requires binary { IsTrue (is_binary op) }
     requires x_in_width { x < 2 ^ operand_bits op }
@@ -86,6 +88,7 @@ fn partial(operation: Binary, width: Width, x: u64, y: u64) -> Result<u64, Trap>
     Ok(value_of_two(operation, width, x, y))
 }
 
+#[inline(always)]
 fn without_traps(operation: Binary, width: Width, x: u64, y: u64) -> u64
     requires x_fits { x < 2 ^ bits_of width }
     requires y_fits { y < 2 ^ bits_of width }

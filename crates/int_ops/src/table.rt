@@ -11,6 +11,7 @@ use Width::{W32, W64};
 ///
 /// Source: Binary Format, Instructions: Numeric Instructions.
 #[tactic(auto, unfolding(crate::specs::Operators::operator_of))]
+#[inline(always)]
 pub fn operator(op: u8) -> Option<Operator>
     ensures { result ≡ operator_of op }
 {

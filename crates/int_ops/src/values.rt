@@ -10,6 +10,7 @@ use crate::integers::{
 use crate::operators::{Binary, Unary, Width};
 
 // The value of an operation on one integer.
+#[inline(always)]
 pub fn value_of_one(operation: Unary, from: Width, to: Width, x: u64) -> u64
     requires { x < 2 ^ bits_of from }
     ensures { result ≡ unary_value operation (bits_of from) (bits_of to) x }
@@ -28,6 +29,7 @@ pub fn value_of_one(operation: Unary, from: Width, to: Width, x: u64) -> u64
 }
 
 // The value of an operation on two integers of one width, where it is defined.
+#[inline(always)]
 pub fn value_of_two(operation: Binary, width: Width, x: u64, y: u64) -> u64
     requires x_fits { x < 2 ^ bits_of width }
     requires y_fits { y < 2 ^ bits_of width }

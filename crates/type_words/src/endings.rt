@@ -10,8 +10,8 @@ use std::marker::Model;
 use wasm_ast::ValType;
 
 /// Lists of value types, each by its number: 0, 1 .. in the order in which they were added. Once they are linked it is known
-/// quickly whether the first types of one end with the first types of another. The lists themselves aren't kept, only the
-/// words of their beginnings.
+/// quickly whether the first types of one end with the first types of another. Whether two begin alike is known without
+/// links. The lists themselves aren't kept, only the words of their beginnings.
 #[derive(Drop)]
 pub struct Endings {
     // the beginnings of the lists
@@ -127,5 +127,21 @@ impl Endings {
             Some(end) => end,
         };
         self.words.ends_with(whole, end)
+    }
+
+    /// Whether the first `n` types of two lists are the same. It is `false` where there is no list of a number or one has fewer
+    /// types.
+    pub fn begins_alike(&self, one: usize, other: usize, n: usize) -> bool
+        ensures { result ≡ true → take n (word self.now one) ≡ take n (word self.now other) }
+    {
+        let first = match beginning(&self.numbers, &self.spans, one, n) {
+            None => return false,
+            Some(first) => first,
+        };
+        let second = match beginning(&self.numbers, &self.spans, other, n) {
+            None => return false,
+            Some(second) => second,
+        };
+        first == second
     }
 }

@@ -1,5 +1,6 @@
 // Each public function once, on small lists whose answers are known by hand.
-use super::{Endings, Words};
+use super::Endings;
+use crate::words::Words;
 use std::alloc::{AllocError, Global};
 use std::test::Fail;
 use wasm_ast::ValType;
@@ -95,6 +96,34 @@ fn parts_end(rt: HostRuntime) -> Result<(), Fail> {
             endings.ends_with(longer, count, shorter, n),
             want,
             "{longer} {count} {shorter} {n}"
+        );
+    }
+    Ok(())
+}
+
+#[test]
+fn begin(rt: HostRuntime) -> Result<(), Fail> {
+    let alloc = rt.alloc();
+    let mut endings = Endings::new(alloc)?;
+    endings.add(&[I32, I64, I32])?;
+    endings.add(&[I32, I64, I64])?;
+    endings.add(&[I64])?;
+    for (one, other, n, want) in [
+        (0, 1, 0, true),
+        (0, 1, 2, true),
+        (1, 0, 2, true),
+        (1, 1, 3, true),
+        (0, 1, 3, false),
+        (0, 2, 0, true),
+        (0, 2, 1, false),
+        (2, 0, 2, false),
+        (2, 2, 2, false),
+        (0, 3, 0, false),
+    ] {
+        assert_eq!(rt;
+            endings.begins_alike(one, other, n),
+            want,
+            "{one} {other} {n}"
         );
     }
     Ok(())

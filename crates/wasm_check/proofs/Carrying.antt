@@ -1,5 +1,5 @@
 -- Lists that a `br_table` has seen can be carried.
-use Rattle.std.proofs.Common.{◌≡◌, ℕ, suc, ◌+◌, ◌<◌, List, ◌∷◌, ◌⊎◌, inl, inr, length, drop, get_or, drop-cons, refl, sym, ap, subst, ◌∙◌, arith}
+use Rattle.std.proofs.Common.{◌≡◌, ℕ, suc, ◌+◌, ◌<◌, List, [], ◌∷◌, ◌⊎◌, inl, inr, length, drop, get_or, drop-cons, refl, sym, ap, subst, ◌∙◌, arith}
 use Rattle.std.specs.Prelude.{Bool, true, false, cond, ◌==◌, nat_lt, Option, Some, None, slice_get}
 use Rattle.std.specs.Ordering.{nat_cmp, is_eq}
 use Rattle.std.specs.declared.cmp.Ordering.TheVariants.{Less, Equal, Greater}
@@ -9,15 +9,19 @@ use Rattle.std.proofs.lemmas.Bool.{eqb-true, ltb-true}
 use Rattle.std.proofs.lemmas.Option.{same_Some}
 use Rattle.wasm_ast.specs.declared.types.ValType.{ValType}
 use Rattle.wasm_ast.specs.declared.types.FuncType.{FuncType}
+use Rattle.wasm_ast.specs.declared.types.ValType.TheVariants.{I32}
+use Rattle.wasm_ast.specs.declared.instructions.Instr.TheVariants.{BrTable}
 use Rattle.wasm_check.specs.declared.operands.Operand.{Operand}
+use Rattle.wasm_check.specs.declared.operands.Operand.TheVariants.{Of}
+use Rattle.wasm_check.specs.Contexts.{Context}
 use Rattle.wasm_check.specs.declared.lists.Listed.{Listed}
 use Rattle.wasm_check.specs.declared.lists.Listed.TheVariants.{Nothing, One, Takes, Gives}
 use Rattle.wasm_check.specs.declared.carried.Seen.{Seen}
 use Rattle.wasm_check.specs.Operands.{operands}
 use Rattle.wasm_check.specs.Instructions.{Labels}
 use Rattle.wasm_check.specs.Lists.{listed}
-use Rattle.wasm_check.specs.Checker.{Stack, bind, when, pops, popped, same_count, each_fits}
-use Rattle.wasm_check.specs.Carried.{Passes, CanCarry, is_seen, IsPut, SeenPass}
+use Rattle.wasm_check.specs.Checker.{Stack, Answers, dead_end, acts, bind, when, pops, popped, same_count, each_fits}
+use Rattle.wasm_check.specs.Carried.{Passes, CanCarry, CanTake, is_seen, IsPut, SeenPass}
 use Rattle.wasm_check.proofs.Rules.{same_count-true}
 use Rattle.wasm_check.proofs.Labels.{each-goes}
 
@@ -78,6 +82,11 @@ seen-more types own s old new list h put p q i =
 pub none-seen : (types : List FuncType) (own : List ValType) (s : Stack) (seen : Seen) → ((list : Listed) → is_seen seen list ≡ false) → SeenPass types own s seen
 none-seen types own s seen n list i = let both : false ≡ true = sym (n list) ∙ i in cc
 
+-- what is taken without a change of the stack
+pub take-answers : (b : Bool) (these : List ValType) (s old new : Stack) → old ≡ s → Answers b (popped (operands these) old) new → CanTake b these s
+take-answers true these s old new is e = (new, ap (popped (operands these)) (sym is) ∙ e)
+take-answers false these s old new is e = ap (popped (operands these)) (sym is) ∙ e
+
 -- ---- each label
 
 refuses : (ls : Labels) (own : List ValType) (k : ℕ) (labels : List ℕ) (s : Stack) → CanCarry false ls own s k → each_fits ls own (k ∷ labels) s.dead s.ops ≡ None
@@ -106,3 +115,29 @@ each-stops ls own labels i s h n = ap (λ l. each_fits ls own l s.dead s.ops) (d
 
 pub each-on : (ls : Labels) (own : List ValType) (labels : List ℕ) (i : ℕ) (s : Stack) → i < length labels → CanCarry true ls own s (get_or labels i 0) → each_fits ls own (drop i labels) s.dead s.ops ≡ each_fits ls own (drop (i + 1) labels) s.dead s.ops
 each-on ls own labels i s h c = each-goes ls own labels i c.0 s c.2.1 h c.1 c.2.0 c.2.2
+
+-- ---- the whole table
+
+-- the last label, whose list is the one that is wanted
+last-goes : (ls : Labels) (labels : List ℕ) (last : ℕ) (s : Stack) (own : List ValType) → slice_get ls last ≡ Some own → CanTake true own s → each_fits ls own (last ∷ labels) s.dead s.ops ≡ each_fits ls own labels s.dead s.ops
+last-goes ls labels last s own at taken = each-goes ls own (last ∷ labels) 0 own s taken.0 (omega arith) at refl taken.1
+
+-- a table whose operand is taken, with its last label
+table-is : (C : Context) (ls : Labels) (labels : List ℕ) (last : ℕ) (old s : Stack) (own : List ValType) (o : Option (List Operand)) → popped (Of I32 ∷ []) old ≡ Some s → slice_get ls last ≡ Some own → each_fits ls own (last ∷ labels) s.dead s.ops ≡ o →
+    acts C ls (BrTable labels last) old ≡ bind o (λ gone. Some dead_end)
+table-is C ls labels last old s own o popped at fits =
+    ap (λ r. bind r (λ (s : Stack). bind (slice_get ls last) (λ (own : List ValType). bind (each_fits ls own (last ∷ labels) s.dead s.ops) (λ (gone : List Operand). Some dead_end)))) popped
+    ∙ ap (λ r. bind r (λ (own : List ValType). bind (each_fits ls own (last ∷ labels) s.dead s.ops) (λ (gone : List Operand). Some dead_end))) at
+    ∙ ap (λ r. bind r (λ (gone : List Operand). Some dead_end)) fits
+
+pub table-refused : (C : Context) (ls : Labels) (labels : List ℕ) (last : ℕ) (old s : Stack) (own : List ValType) → popped (Of I32 ∷ []) old ≡ Some s → slice_get ls last ≡ Some own → CanTake false own s → acts C ls (BrTable labels last) old ≡ None
+table-refused C ls labels last old s own p at refused = table-is C ls labels last old s own None p at (refuses ls own last labels s (is-refused ls own s last own at refused))
+
+pub table-stops : (C : Context) (ls : Labels) (labels : List ℕ) (last : ℕ) (old s : Stack) (own : List ValType) → popped (Of I32 ∷ []) old ≡ Some s → slice_get ls last ≡ Some own → CanTake true own s → each_fits ls own labels s.dead s.ops ≡ None →
+    acts C ls (BrTable labels last) old ≡ None
+table-stops C ls labels last old s own p at taken stops = table-is C ls labels last old s own None p at (last-goes ls labels last s own at taken ∙ stops)
+
+pub table-goes : (C : Context) (ls : Labels) (labels : List ℕ) (last : ℕ) (old s new : Stack) (own : List ValType) → popped (Of I32 ∷ []) old ≡ Some s → slice_get ls last ≡ Some own → CanTake true own s → each_fits ls own labels s.dead s.ops ≡ Some s.ops → new ≡ dead_end →
+    acts C ls (BrTable labels last) old ≡ Some new
+table-goes C ls labels last old s new own p at taken goes end =
+    table-is C ls labels last old s own (Some s.ops) p at (last-goes ls labels last s own at taken ∙ goes) ∙ ap (λ (s : Stack). Some s) (sym end)

@@ -2,6 +2,7 @@ mod Alignment
 mod Bodies
 mod Carrying
 mod ContextLemmas
+mod Deciding
 mod EntryLemmas
 mod Examples
 mod FaultLemmas

@@ -1,10 +1,11 @@
 -- Laws of the names of lists, as they are collected one function type after another.
-use Rattle.std.proofs.Common.{◌≡◌, ℕ, zero, suc, ◌+◌, List, [], ◌∷◌, ◌++◌, length, refl, ap, ◌∙◌, subst}
+use Rattle.std.proofs.Common.{◌≡◌, ℕ, zero, suc, ◌+◌, List, [], ◌∷◌, ◌++◌, length, map, reverse, take, refl, sym, ap, ◌∙◌, subst}
 use Rattle.std.specs.Prelude.{Option, Some, None, IfSome, slice_get}
-use Rattle.std.proofs.lemmas.List.{length-append}
+use Rattle.std.proofs.lemmas.List.{length-append, get_or-map}
+use Rattle.std.proofs.lemmas.Option.{slice_get_within, get_or_from_slice_get}
 use Rattle.wasm_ast.specs.declared.types.ValType.{ValType}
 use Rattle.wasm_ast.specs.declared.types.FuncType.{FuncType}
-use Rattle.type_words.specs.Words.{Keeps}
+use Rattle.type_words.specs.Words.{word, Keeps}
 use Rattle.wasm_check.specs.declared.lists.Listed.{Listed}
 use Rattle.wasm_check.specs.declared.lists.Listed.TheVariants.{Takes, Gives}
 use Rattle.wasm_check.specs.Lists.{listed, AreNames, AreAmong}
@@ -61,3 +62,13 @@ naming-more types x takes gives all then new taken given t g u v takes' gives' t
   of_taken = among-keep types then new (λ x. Takes x) (taken ++ u ∷ []) again (among-push types then (λ x. Takes x) taken u x n.taken_long (among-keep types all then (λ x. Takes x) taken keeps n.of_taken) su);
   of_given = among-push types new (λ x. Gives x) given v x n.given_long (among-keep types all new (λ x. Gives x) given (λ k ts at. again k ts (keeps k ts at)) n.of_given) sv;
 })
+
+-- a list among those that are read backward
+backward-word : (all back : List (List ValType)) (k : ℕ) (types : List ValType) → back ≡ map (λ ts. reverse ts) all → slice_get all k ≡ Some types → word back k ≡ reverse types
+backward-word all back k types is at =
+    ap (λ (ls : List (List ValType)). word ls k) is ∙ get_or-map (λ (ts : List ValType). reverse ts) all k [] [] (slice_get_within all k types at)
+    ∙ ap (λ (ts : List ValType). reverse ts) (get_or_from_slice_get all k types [] at)
+
+pub alike-backward : (all back : List (List ValType)) (k l n : ℕ) (ts us : List ValType) → back ≡ map (λ types. reverse types) all → slice_get all k ≡ Some ts → slice_get all l ≡ Some us → take n (word back k) ≡ take n (word back l) → take n (reverse ts) ≡ take n (reverse us)
+alike-backward all back k l n ts us is at there same =
+    ap (λ (x : List ValType). take n x) (sym (backward-word all back k ts is at)) ∙ same ∙ ap (λ (x : List ValType). take n x) (backward-word all back l us is there)

@@ -88,7 +88,7 @@ own-taken : (us : List ValType) (wanted : List Operand) (dead : Bool) (rest : Li
 own-taken [] wanted dead rest = refl
 own-taken (u ∷ us) wanted dead rest = ap (λ b. when b (pops (map (λ t. Of t) us ++ wanted) dead (map (λ t. Of t) us ++ rest))) (same_type-self u) ∙ own-taken us wanted dead rest
 
-operands-reverse : (ts : List ValType) → operands ts ≡ map (λ t. Of t) (reverse ts)
+pub operands-reverse : (ts : List ValType) → operands ts ≡ map (λ t. Of t) (reverse ts)
 operands-reverse [] = refl
 operands-reverse (t ∷ ts) =
     reverse-append (Of t ∷ []) (map (λ t. Of t) ts) ∙ ap (λ l. l ++ Of t ∷ []) (operands-reverse ts)

@@ -1,6 +1,6 @@
--- What a `br_table` has seen of its labels, so that it looks at labels that carry one list once. No public contract speaks of
--- it.
-use Rattle.std.specs.Prelude.{◌≡◌, ℕ, List, length, ◌⊎◌, Some, slice_get, Bool, true, false}
+-- What a `br_table` has seen of its labels, so that it looks at labels that carry one list once, and which types of the others
+-- decide. No public contract speaks of it.
+use Rattle.std.specs.Prelude.{◌≡◌, ℕ, List, length, take, reverse, ◌⊎◌, Some, None, slice_get, Bool, true, false}
 use Rattle.std.specs.Ordering.{nat_cmp}
 use Rattle.std.specs.BTreeSet.{contains}
 use Rattle.wasm_ast.specs.declared.types.ValType.{ValType}
@@ -36,3 +36,17 @@ IsPut list old new = (q : Listed) → is_seen new q ≡ true → (list ≡ q) �
 -- each list that was seen can be carried
 abbrev pub SeenPass : List FuncType → List ValType → Stack → Seen → Type 0
 SeenPass types own s seen = (list : Listed) → is_seen seen list ≡ true → Passes own s (listed types list)
+
+-- whether operands of these types can be taken
+abbrev pub CanTake : Bool → List ValType → Stack → Type 0
+CanTake true these s = (t : Stack) × (popped (operands these) s ≡ Some t)
+CanTake false these s = popped (operands these) s ≡ None
+
+-- a list as long as own can be taken from these operands where its last n types are those of own
+abbrev pub Decide : List ValType → Stack → ℕ → Type 0
+Decide own s n =
+    (these : List ValType) → length these ≡ length own → take n (reverse these) ≡ take n (reverse own) → (t : Stack) × (popped (operands these) s ≡ Some t)
+
+-- so it is where own itself can be taken
+abbrev pub HangsOn : Stack → List ValType → ℕ → Type 0
+HangsOn s own n = (t : Stack) → popped (operands own) s ≡ Some t → Decide own s n

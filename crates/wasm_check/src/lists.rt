@@ -1,6 +1,6 @@
 // Lists of value types, by what names them. Equal lists of the function types of a module have one name, so that they are
 // known to be equal without a look at their types.
-ghost use Rattle.std.specs.Prelude.{◌≡◌, ◌∷◌, [], true, IfOk, IfSome, List, Some, slice_get, take};
+ghost use Rattle.std.specs.Prelude.{◌≡◌, ◌∷◌, [], true, IfOk, IfSome, List, Some, map, reverse, slice_get, take};
 ghost use Rattle.wasm_ast.specs.declared.types.ValType.{ValType as OneType};
 ghost use Rattle.wasm_ast.specs.declared.types.FuncType.{FuncType as OneFuncType};
 ghost use Rattle.type_words.specs.Words.{EndsWith, Keeps};
@@ -28,7 +28,7 @@ pub enum Listed {
 }
 
 /// The function types of a module, with a name for each list of types that they take or give. Equal lists have one name, and
-/// of long lists it is known which ends with the first types of another.
+/// of long lists it is known which ends with the first types of another, and which end alike.
 #[derive(Drop)]
 pub struct Lists<'a> {
     types: &'a [FuncType],
@@ -36,6 +36,8 @@ pub struct Lists<'a> {
     gives: Vec<Listed>,
     // the long lists
     endings: Endings,
+    // the same, each from its last type to its first; they aren't linked
+    backward: Endings,
     // which of them is what each function type takes, and gives, where that is a long list that no earlier one is equal to
     taken: Vec<Option<usize>>,
     given: Vec<Option<usize>>,
@@ -45,7 +47,7 @@ pub struct Lists<'a> {
 const LONG: usize = 16;
 
 impl<'a> Model for Lists<'a> {
-    ghost use Rattle.std.specs.Prelude.{List};
+    ghost use Rattle.std.specs.Prelude.{◌≡◌, List, map, reverse};
     ghost use Rattle.wasm_ast.specs.declared.types.FuncType.{FuncType};
     ghost use Rattle.wasm_check.specs.declared.lists.Listed.TheVariants.{Takes, Gives};
     ghost use Rattle.wasm_check.specs.Lists.{AreNames, AreAmong};
@@ -55,7 +57,8 @@ impl<'a> Model for Lists<'a> {
     ghost view = { λ l. l.types.now };
 
     ghost invariant = { λ l. AreNames l.types.now (λ x. Takes x) l.takes.items × AreNames l.types.now (λ x. Gives x) l.gives.items
-        × AreAmong l.types.now l.endings (λ x. Takes x) l.taken.items × AreAmong l.types.now l.endings (λ x. Gives x) l.given.items };
+        × AreAmong l.types.now l.endings (λ x. Takes x) l.taken.items × AreAmong l.types.now l.endings (λ x. Gives x) l.given.items
+        × (l.backward ≡ map (λ types. reverse types) l.endings) };
 }
 
 // A list of one type.
@@ -138,15 +141,29 @@ fn first_name(
     Ok(name)
 }
 
+// The list from its last type to its first.
+fn reversed(alloc: Global, list: &[ValType]) -> Result<Vec<ValType>, AllocError>
+    ensures { IfOk result (λ types. types.items ≡ reverse list.now) }
+{
+    let mut types = Vec::new(alloc);
+    types.extend_from_slice(list)?;
+    types.as_mut_slice().reverse();
+    Ok(types)
+}
+
 // Adds a list to the long ones, where it is long and has this name of its own, and tells which it is then.
 fn add_long(
+    alloc: Global,
     types: &[FuncType],
     endings: &mut Endings,
+    backward: &mut Endings,
     name: Listed,
     own: Listed,
 ) -> Result<Option<usize>, AllocError>
+    requires { backward.old ≡ map (λ types. reverse types) endings.old }
     ensures kept { IfOk result (λ _. Keeps endings.old endings.new) }
     ensures there { IfOk result (λ o. IfSome o (λ k. slice_get endings.new k ≡ Some (listed types.now own))) }
+    ensures backward { IfOk result (λ _. backward.new ≡ map (λ types. reverse types) endings.new) }
 {
     let list = list_at(types, own);
     if name != own || list.len() < LONG {
@@ -154,6 +171,7 @@ fn add_long(
     }
     let k = endings.len();
     endings.add(list)?;
+    backward.add(reversed(alloc, list)?.as_slice())?;
     Ok(Some(k))
 }
 
@@ -185,6 +203,7 @@ impl<'a> Lists<'a> {
         let mut takes = Vec::new(alloc);
         let mut gives = Vec::new(alloc);
         let mut endings = Endings::new(alloc)?;
+        let mut backward = Endings::new(alloc)?;
         let mut taken = Vec::new(alloc);
         let mut given = Vec::new(alloc);
         for x in 0..u32::MAX {
@@ -193,10 +212,26 @@ impl<'a> Lists<'a> {
             }
             let name = first_name(alloc, types, &mut names, Listed::Takes(x))?;
             takes.push(name)?;
-            taken.push(add_long(types, &mut endings, name, Listed::Takes(x))?)?;
+            let place = add_long(
+                alloc,
+                types,
+                &mut endings,
+                &mut backward,
+                name,
+                Listed::Takes(x),
+            )?;
+            taken.push(place)?;
             let name = first_name(alloc, types, &mut names, Listed::Gives(x))?;
             gives.push(name)?;
-            given.push(add_long(types, &mut endings, name, Listed::Gives(x))?)?;
+            let place = add_long(
+                alloc,
+                types,
+                &mut endings,
+                &mut backward,
+                name,
+                Listed::Gives(x),
+            )?;
+            given.push(place)?;
         }
         endings.link(alloc)?;
         Ok(Lists {
@@ -204,6 +239,7 @@ impl<'a> Lists<'a> {
             takes,
             gives,
             endings,
+            backward,
             taken,
             given,
         })
@@ -250,6 +286,24 @@ impl<'a> Lists<'a> {
             Some(l) => match place_of(taken, given, shorter) {
                 None => false,
                 Some(s) => self.endings.ends_with(l, count, s, n),
+            },
+        }
+    }
+
+    /// Whether the last `n` types of two lists are the same. It is seen where both are long lists that have so many, and where
+    /// they are one, and else not.
+    pub fn ends_alike(&self, one: Listed, other: Listed, n: usize) -> bool
+        ensures { result ≡ true → take n (reverse (listed self.now one)) ≡ take n (reverse (listed self.now other)) }
+    {
+        if one == other {
+            return true;
+        }
+        let (taken, given) = (self.taken.as_slice(), self.given.as_slice());
+        match place_of(taken, given, one) {
+            None => false,
+            Some(k) => match place_of(taken, given, other) {
+                None => false,
+                Some(l) => self.backward.begins_alike(k, l, n),
             },
         }
     }

@@ -1,5 +1,5 @@
 // The open sequences of a body, and what opening, `else` and `end` do with them.
-ghost use Rattle.std.specs.Prelude.{◌≡◌, ◌∷◌, IfOk, MatchOption, None, Some, Option, List, false, true, slice_get};
+ghost use Rattle.std.specs.Prelude.{◌≡◌, ◌∷◌, IfOk, MatchOption, None, Some, Option, List, false, true, length, slice_get};
 ghost use Rattle.wasm_ast.specs.declared.instructions.Instr.TheVariants.{BrTable};
 ghost use Rattle.wasm_check.specs.declared.operands.Operand.TheVariants.{Of};
 ghost use Rattle.wasm_check.specs.Operands.{operands};
@@ -7,7 +7,7 @@ ghost use Rattle.wasm_check.specs.Operators.{arrow};
 ghost use Rattle.wasm_check.specs.Contexts.{Context};
 ghost use Rattle.wasm_check.specs.Lists.{listed};
 ghost use Rattle.wasm_check.specs.Runs.{known, open_of, open_seqs, labels_in};
-ghost use Rattle.wasm_check.specs.Carried.{SeenPass, CanCarry};
+ghost use Rattle.wasm_check.specs.Carried.{SeenPass, CanCarry, CanTake, Decide};
 ghost use Rattle.wasm_check.specs.Checker.{Answers, SomeBy, Open, when, each_fits, acts as acts_of, finished as finished_of, finished_other, opened as opened_of, opens as opens_of, turns as turns_of, ends as ends_of};
 
 use crate::carried::Seen;
@@ -43,6 +43,20 @@ pub fn label_of(_scope: &Scope, own: Listed, outer: &[OpenSeq], k: u32) -> Optio
     Some(there.label)
 }
 
+// Whether the operands match the types of the list, which has as many as wanted. They match those wanted, and the last `hold`
+// types decide.
+fn can_take(scope: &Scope, list: Listed, wanted: Listed, hold: usize, s: &Stack) -> bool
+    requires count { length (listed scope.now.types list) ≡ length (listed scope.now.types wanted) }
+    requires decide { Decide (listed scope.now.types wanted) (known scope.now.types s.now) hold }
+    ensures { CanTake result (listed scope.now.types list) (known scope.now.types s.now) }
+{
+    if scope.ends_alike(list, wanted, hold) {
+        return true;
+    }
+    let mut rest = s.peek(scope);
+    rest.take_list(scope, list)
+}
+
 // Whether the label is there, carries as many types as wanted, and the operands match them. Of the labels of one name it
 // looks at one.
 fn fits_one(
@@ -50,10 +64,12 @@ fn fits_one(
     own: Listed,
     outer: &[OpenSeq],
     wanted: Listed,
+    hold: usize,
     k: u32,
     s: &Stack,
     seen: &mut Seen,
 ) -> Result<bool, AllocError>
+    requires decide { Decide (listed scope.now.types wanted) (known scope.now.types s.now) hold }
     requires pass { SeenPass scope.now.types (listed scope.now.types wanted) (known scope.now.types s.now) seen.old }
     ensures fits { IfOk result (λ b. CanCarry b (labels_in scope.now.types own outer.now) (listed scope.now.types wanted) (known scope.now.types s.now) k) }
     ensures pass { IfOk result (λ b. SeenPass scope.now.types (listed scope.now.types wanted) (known scope.now.types s.now) seen.new) }
@@ -67,8 +83,7 @@ fn fits_one(
     if scope.list(list).len() != scope.list(wanted).len() {
         return Ok(false);
     }
-    let mut rest = s.peek(scope);
-    if !rest.take_list(scope, list) {
+    if !can_take(scope, list, wanted, hold, s) {
         return Ok(false);
     }
     seen.put(list)?;
@@ -82,21 +97,23 @@ fn each(
     own: Listed,
     outer: &[OpenSeq],
     wanted: Listed,
+    hold: usize,
     labels: &[u32],
     s: &Stack,
 ) -> Result<bool, AllocError>
+    requires { Decide (listed scope.now.types wanted) (known scope.now.types s.now) hold }
     ensures { IfOk result (λ b. SomeBy b (each_fits (labels_in scope.now.types own outer.now) (listed scope.now.types wanted) labels.now (known scope.now.types s.now).dead (known scope.now.types s.now).ops) (known scope.now.types s.now).ops) }
 {
     let mut seen = Seen::new(alloc);
     for k in labels {
-        if !fits_one(scope, own, outer, wanted, *k, s, &mut seen)? {
+        if !fits_one(scope, own, outer, wanted, hold, *k, s, &mut seen)? {
             return Ok(false);
         }
     }
     Ok(true)
 }
 
-/// `br_table`. It costs its labels, and what each different list among those that they carry costs to be taken.
+/// `br_table`. It costs its labels, and the runs of operands once. What labels carry is compared by its number, or has few types.
 pub fn choose(
     alloc: Global,
     scope: &Scope,
@@ -114,10 +131,12 @@ pub fn choose(
     let Some(wanted) = label_of(scope, own, outer, last) else {
         return Ok(false);
     };
-    if !each(alloc, scope, own, outer, wanted, &[last], s)? {
+    let mut rest = s.peek(scope);
+    if !rest.take_list(scope, wanted) {
         return Ok(false);
     }
-    if !each(alloc, scope, own, outer, wanted, labels, s)? {
+    let hold = s.decisive(scope, wanted);
+    if !each(alloc, scope, own, outer, wanted, hold, labels, s)? {
         return Ok(false);
     }
     s.kill(scope);

@@ -1,5 +1,5 @@
 // The context of a function's body, as slices of what the module and the function say.
-ghost use Rattle.std.specs.Prelude.{◌≡◌, MatchOption, None, Some, nat_lt, slice_get, take, true};
+ghost use Rattle.std.specs.Prelude.{◌≡◌, MatchOption, None, Some, nat_lt, reverse, slice_get, take, true};
 ghost use Rattle.wasm_check.specs.Operators.{arrow};
 ghost use Rattle.type_words.specs.Words.{EndsWith};
 ghost use Rattle.wasm_check.specs.Lists.{listed};
@@ -74,6 +74,13 @@ impl<'a> Scope<'a> {
         ensures { result ≡ true → EndsWith (take count (listed self.now.types longer)) (take n (listed self.now.types shorter)) }
     {
         self.lists.ends_with(longer, count, shorter, n)
+    }
+
+    /// Whether the last `n` types of two lists are the same, as far as that is known.
+    pub fn ends_alike(&self, one: Listed, other: Listed, n: usize) -> bool
+        ensures { result ≡ true → take n (reverse (listed self.now.types one)) ≡ take n (reverse (listed self.now.types other)) }
+    {
+        self.lists.ends_alike(one, other, n)
     }
 
     /// What the function type of this number takes and gives.

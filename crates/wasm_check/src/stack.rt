@@ -1,10 +1,11 @@
 // The operands of an open sequence, as far as their types are known. They are kept in runs, each one operand or the first
 // types of a list of the module, so that a list is put on top, and taken off again, at one go.
-ghost use Rattle.std.specs.Prelude.{◌≡◌, ◌≤◌, ◌∷◌, [], ◌++◌, Bool, List, true, false, IfOk, MatchOption, None, Some, take, length};
+ghost use Rattle.std.specs.Prelude.{◌≡◌, ◌≤◌, ◌∷◌, [], ◌++◌, ◌⊎◌, Bool, List, true, false, IfOk, MatchOption, None, Some, take, drop, length};
 ghost use Rattle.wasm_check.specs.declared.stack.Run.TheVariants.{First};
 ghost use Rattle.wasm_check.specs.Operands.{operands};
 ghost use Rattle.wasm_check.specs.Lists.{listed};
 ghost use Rattle.wasm_check.specs.Runs.{run_of, known, peeked};
+ghost use Rattle.wasm_check.specs.Carried.{HangsOn};
 ghost use Rattle.wasm_check.specs.Checker.{Answers, dead_end, onto, pop_of, popped, same_type, fits, is_empty as no_operands};
 
 use crate::lists::Listed;
@@ -135,6 +136,26 @@ fn last_of(scope: &Scope, run: Run) -> Option<(Operand, Run)>
     }
 }
 
+// How many operands the run has.
+fn size(scope: &Scope, run: Run) -> usize
+    ensures { result ≡ length (run_of scope.now.types run) }
+{
+    match run {
+        Run::Single(_) => 1,
+        Run::First { list, count } => count.min(scope.list(list).len()),
+    }
+}
+
+// How many operands of the lowest run decide what it matches. An operand of no known type matches all.
+fn lowest(scope: &Scope, run: Run) -> usize
+    ensures { (drop result (run_of scope.now.types run) ≡ []) ⊎ (drop result (run_of scope.now.types run) ≡ Operand.Bottom ∷ []) }
+{
+    match run {
+        Run::Single(Operand::Bottom) => 0,
+        _ => size(scope, run),
+    }
+}
+
 impl Stack {
     /// Without operands.
     pub fn new(alloc: Global, _scope: &Scope) -> Stack
@@ -155,6 +176,31 @@ impl Stack {
             dead: self.dead,
             below: self.below.as_slice(),
             last: self.last,
+        }
+    }
+
+    /// How many of its last types another list of the same length has to share with this one to match the operands too, where
+    /// this one does: as many as there are operands, and no more than the list has types. An operand of no known type at the
+    /// very bottom isn't counted, since it matches all types.
+    ///
+    /// It costs the runs.
+    pub fn decisive(&self, scope: &Scope, list: Listed) -> usize
+        ensures { HangsOn (known scope.now.types self.now) (listed scope.now.types list) result }
+    {
+        let most = scope.list(list).len();
+        let mut rest = self.peek(scope);
+        let mut count = 0;
+        loop {
+            let Some((run, below)) = rest.below.split_last() else {
+                return count + lowest(scope, rest.last).min(most - count);
+            };
+            let n = size(scope, rest.last);
+            if most - count <= n {
+                return most;
+            }
+            count += n;
+            rest.last = *run;
+            rest.below = below;
         }
     }
 

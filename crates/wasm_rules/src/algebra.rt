@@ -145,6 +145,7 @@ impl Algebra for Numbers {
         n
     }
 
+    #[inline(always)]
     fn un(&mut self, op: u8, a: u64) -> Result<u64, AllocError>
         requires unary { IsTrue (is_unary op) }
         requires a_width { HasNumber (operand_bits op) a }
@@ -154,6 +155,7 @@ impl Algebra for Numbers {
         Ok(un(op, a))
     }
 
+    #[inline(always)]
     fn bin(&mut self, op: u8, a: u64, b: u64) -> Result<u64, AllocError>
         requires binary { IsTrue (is_binary op) }
         requires a_width { HasNumber (operand_bits op) a }

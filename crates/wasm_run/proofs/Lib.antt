@@ -9,3 +9,5 @@ pub mod PageLemmas
 pub mod QuickLemmas
 pub mod AccessQuickLemmas
 pub mod TestLemmas
+pub mod CallQuickLemmas
+pub mod TableQuickLemmas

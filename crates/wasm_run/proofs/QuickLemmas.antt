@@ -15,9 +15,9 @@ use Rattle.int_ops.specs.declared.operators.Operation.{Operation}
 use Rattle.int_ops.specs.declared.operators.Operation.TheVariants.{OfOne, OfTwo}
 use Rattle.int_ops.specs.declared.operators.Operator.{Operator}
 use Rattle.int_ops.specs.Operators.{operator_of, divides, is_div_s}
-use Rattle.wasm_reduction.specs.Configurations.{Value, Label, Config, Stuck, Next, Goes, Draws, Asks, Ends}
+use Rattle.wasm_reduction.specs.Configurations.{Value, Label, Frame, Config, Stuck, Next, Goes, Draws, Asks, Ends}
 use Rattle.wasm_reduction.specs.Combinators.{with_found, with_value, with_word, with_last, word_of}
-use Rattle.wasm_reduction.specs.Control.{finish, entering, given, block, loop, branch, br}
+use Rattle.wasm_reduction.specs.Control.{give_back, finish, entering, given, block, loop, branch, br, return}
 use Rattle.wasm_reduction.specs.Numeric.{checking, operating, numeric, is_wide}
 use Rattle.wasm_reduction.specs.Parametric.{discard}
 use Rattle.wasm_reduction.specs.Variables.{local_get, local_set, local_tee, global_get, global_set}
@@ -37,6 +37,7 @@ use Rattle.wasm_machine.proofs.LabelLaws.{length-labels, length-waiting}
 use Rattle.wasm_machine.proofs.StepLaws.{acts-on, next-is, next-steps, end-steps, wide-state}
 use Rattle.wasm_run.specs.Places.{config_at, told_at, IsFit, IsInOrder, IsNeverStuck, Settled, WentOn, IsAtOnce}
 use Rattle.wasm_run.proofs.PlaceLemmas.{settled_here}
+use Rattle.wasm_run.proofs.TurnLemmas.{depth-is}
 
 -- ---- instructions that ask nothing
 
@@ -99,6 +100,28 @@ plain_br c vs l h = plain_branch c vs (drop l (c.frame.here ∷ c.frame.outer)) 
 pub plain_finish : (c : Config ℕ) (vs : List (Value ℕ)) (ls : List (Label ℕ)) → 1 ≤ length ls → IsPlain (finish c vs ls)
 plain_finish c vs [] h = absurd (omega (arith, h))
 plain_finish c vs (l ∷ ls) h = tt
+
+-- where a frame waits, the end of a frame goes on
+plain_give_back : (c : Config ℕ) (vs : List (Value ℕ)) (fs : List (Frame ℕ)) → 1 ≤ length fs → IsPlain (give_back c vs fs)
+plain_give_back c vs [] h = absurd (omega (arith, h))
+plain_give_back c vs (f ∷ fs) h = tt
+
+pub plain_finish_out : (c : Config ℕ) (vs : List (Value ℕ)) (ls : List (Label ℕ)) → 1 ≤ length c.callers → IsPlain (finish c vs ls)
+plain_finish_out c vs [] h = plain_give_back c vs c.callers h
+plain_finish_out c vs (l ∷ ls) h = tt
+
+plain_branch_out : (c : Config ℕ) (vs : List (Value ℕ)) (ls : List (Label ℕ)) → 1 ≤ length c.callers → IsPlain (branch c vs ls)
+plain_branch_out c vs [] h = refl
+plain_branch_out c vs (t ∷ []) h = keeps_last IsPlain refl t.arity vs (λ carried rest. give_back c carried c.callers) (λ carried rest. plain_give_back c carried c.callers h)
+plain_branch_out c vs (t ∷ l ∷ ls) h =
+    keeps_last IsPlain refl t.arity vs
+    (λ carried rest. Goes (record c { frame = record (c.frame) { here = given carried (record l { code = t.again ++ l.code }); outer = ls } })) (λ carried rest. tt)
+
+pub plain_br_out : (c : Config ℕ) (vs : List (Value ℕ)) (l : ℕ) → 1 ≤ length c.callers → IsPlain (br c vs l)
+plain_br_out c vs l h = plain_branch_out c vs (drop l (c.frame.here ∷ c.frame.outer)) h
+
+pub plain_return : (c : Config ℕ) (vs : List (Value ℕ)) → 1 ≤ length c.callers → IsPlain (return c vs)
+plain_return c vs h = keeps_last IsPlain refl c.frame.arity vs (λ results rest. give_back c results c.callers) (λ results rest. plain_give_back c results c.callers h)
 
 pub plain_discard : (c : Config ℕ) (vs : List (Value ℕ)) → IsPlain (discard c vs)
 plain_discard c vs = keeps_value IsPlain refl vs _ (λ v rest. tt)
@@ -175,7 +198,7 @@ module _ {A : Type 0} (m : Module) (steps : ℕ) (a : A) (s : State (CodeValue �
     steps_so = next-steps (λ _ w. w < 2 ^ 64) (λ _ w. w) numbers m i a a' s t cells cells x next
         (acts-on (λ _ w. w < 2 ^ 64) (λ _ w. w) numbers m i j a a' (kept a a') s t cells x order.cells is acts)
 
-    here_goes : IsNeverStuck m steps (config_at m cells s) → IsPlain (act numbers m (configuration (λ n. n) m (map (λ n. n) cells) (passed s)) (own (image (λ n. n) s)) s.answers j) → x ≡ CodeGoes
+    pub here_goes : IsNeverStuck m steps (config_at m cells s) → IsPlain (act numbers m (configuration (λ n. n) m (map (λ n. n) cells) (passed s)) (own (image (λ n. n) s)) s.answers j) → x ≡ CodeGoes
     here_goes sound plain = goes_told m steps (config_at m cells s) sound cells t x steps_so.gives (subst IsPlain (acts.gives (map (λ n. n) cells)) plain)
 
     -- an instruction that asks nothing goes on
@@ -219,6 +242,11 @@ module _ {A : Type 0} (m : Module) (steps : ℕ) (a : A) (s : State (CodeValue �
     pub end_goes : IsNeverStuck m steps (config_at m cells s) → 1 ≤ length s.labels - s.frame.labels → x ≡ CodeGoes
     end_goes sound some = goes_told m steps (config_at m cells s) sound cells t x end_so.gives
         (subst IsPlain (says.gives (map (λ n. n) cells)) (plain_finish (configuration (λ n. n) m (map (λ n. n) cells) s) (own (image (λ n. n) s)) (configuration (λ n. n) m (map (λ n. n) cells) s).frame.outer (omega (arith, some, outer_count m (map (λ n. n) cells) s))))
+
+    -- the end of a frame, where another waits
+    pub end_out : IsNeverStuck m steps (config_at m cells s) → 1 ≤ length s.callers → x ≡ CodeGoes
+    end_out sound some = goes_told m steps (config_at m cells s) sound cells t x end_so.gives
+        (subst IsPlain (says.gives (map (λ n. n) cells)) (plain_finish_out (configuration (λ n. n) m (map (λ n. n) cells) s) (own (image (λ n. n) s)) (configuration (λ n. n) m (map (λ n. n) cells) s).frame.outer (omega (arith, some, depth-is m cells s))))
 
     pub end_once : (b : Bool) → b ≡ true → x ≡ CodeGoes → IsAtOnce b m steps s cells a t cells
     end_once true so gone = went_steps a t cells x end_so gone
@@ -275,3 +303,9 @@ module _ (s t : State (CodeValue ℕ)) (b d : List ℕ) (same : (t ≡ s) × (d 
 
   pub same_settled : (m : Module) (steps : ℕ) (x : Next ℕ) → Settled m steps (config_at m d t) x → Settled m steps (config_at m b s) x
   same_settled m steps x so = subst (λ e. Settled m steps (config_at m e s) x) same.1 (subst (λ u. Settled m steps (config_at m d u) x) same.0 so)
+
+  pub same_sound : (m : Module) (steps : ℕ) → IsNeverStuck m steps (config_at m b s) → IsNeverStuck m steps (config_at m d t)
+  same_sound m steps sound = λ e so. sound e (same_settled m steps (Ends e) so)
+
+  pub same_once : {A : Type 0} (m : Module) (steps : ℕ) (r : Bool) (a : A) (u : State (CodeValue ℕ)) (e : List ℕ) → IsAtOnce r m steps t d a u e → IsAtOnce r m steps s b a u e
+  same_once m steps r a u e so = subst (λ d. IsAtOnce r m steps s d a u e) same.1 (subst (λ t. IsAtOnce r m steps t d a u e) same.0 so)

@@ -127,6 +127,15 @@ module _ {A : Type 0} (m : Module) (steps : ℕ) (s u : State (CodeValue ℕ)) (
           goes-on m steps s b a u b branch-asking (BrIf l) (next-noted m (BrIf l) s u n noted_is next) a t b x (acts-cells m steps s b a u b branch-asking (BrIf l) t x acts) sound
           (subst (λ ns. IsPlain (acts_at m b u ns (BrIf l))) (sym tested-answers) (plain-br_if (past_at m b u) (own (image (λ n. n) u)) n l (omega (arith, inside, outer-same))))
 
+      -- the same by what comes of the answer
+      pub branch-goes-by : IsNeverStuck m steps (config_at m b s) → IsPlain (acts_at m b u (n ∷ []) (BrIf l)) → x ≡ CodeGoes
+      branch-goes-by sound plain =
+          goes-on m steps s b a u b branch-asking (BrIf l) (next-noted m (BrIf l) s u n noted_is next) a t b x (acts-cells m steps s b a u b branch-asking (BrIf l) t x acts) sound
+          (subst (λ ns. IsPlain (acts_at m b u ns (BrIf l))) (sym tested-answers) plain)
+
+      pub branch-went-by : x ≡ CodeGoes → WentOn m steps (config_at m b s) a t b
+      branch-went-by goes = went-on m steps s b a u b branch-asking (BrIf l) (next-noted m (BrIf l) s u n noted_is next) a t b x (acts-cells m steps s b a u b branch-asking (BrIf l) t x acts) goes
+
       pub branch-went : IsNeverStuck m steps (config_at m b s) → l < length s.labels - s.frame.labels → WentOn m steps (config_at m b s) a t b
       branch-went sound inside = went-on m steps s b a u b branch-asking (BrIf l) (next-noted m (BrIf l) s u n noted_is next) a t b x (acts-cells m steps s b a u b branch-asking (BrIf l) t x acts) (branch-goes sound inside)
 

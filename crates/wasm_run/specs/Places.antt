@@ -1,5 +1,5 @@
 -- Where the loop of a bounded run stands. No public contract speaks of these.
-use Rattle.std.specs.Prelude.{◌≡◌, ◌≢◌, ℕ, ◌^◌, ◌<◌, ◌≤◌, List, All, map, Bool, true, false, ◌&&◌, nat_lt, nat_le, length}
+use Rattle.std.specs.Prelude.{◌≡◌, ◌≢◌, ℕ, zero, suc, [], ◌∷◌, ◌^◌, ◌<◌, ◌≤◌, List, All, map, Bool, true, false, ◌&&◌, nat_lt, nat_le, length}
 use Rattle.std.specs.List.{AllByRecursion}
 use Rattle.wasm_ast.specs.declared.modules.Module.{Module}
 use Rattle.wasm_ast.specs.declared.runs.Draw.{Draw}
@@ -98,3 +98,10 @@ pub record WentOn {A : Type 0} (m : Module) (steps : ℕ) (c : Config ℕ) (a : 
 abbrev pub IsAtOnce : {A : Type 0} → Bool → Module → ℕ → State (CodeValue ℕ) → List ℕ → A → State (CodeValue ℕ) → List ℕ → Type 0
 IsAtOnce true m steps s b a t d = WentOn m steps (config_at m b s) a t d
 IsAtOnce false m steps s b a t d = (t ≡ s) × (d ≡ b)
+
+-- The answers to the questions of `br_table` with n labels, whose index is w: that it is another than the place of each, up to
+-- its own.
+abbrev pub index_answers : ℕ → ℕ → List ℕ
+index_answers zero w = []
+index_answers (suc n) zero = 0 ∷ []
+index_answers (suc n) (suc w) = 1 ∷ index_answers n w

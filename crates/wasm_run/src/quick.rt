@@ -2,18 +2,20 @@
 //
 // What a step says is large to move, and each question is a step of its own. Here the functions of the machine are called where
 // it is known that they go on, and with the answers that their questions will have.
-ghost use Rattle.std.specs.Prelude.{◌≡◌, ◌+◌, ◌<◌, ◌^◌, ℕ, [], IfOk, None, Some, true, length, nat_le, slice_get};
+ghost use Rattle.std.specs.Prelude.{◌≡◌, ◌+◌, ◌-◌, ◌<◌, ◌^◌, ◌||◌, ℕ, [], IfOk, OnOk, None, Some, true, length, nat_le, nat_lt, slice_get, slice_index_or};
 ghost use Rattle.wasm_ast.specs.declared.instructions.Instr.{Instr as OneInstr};
+ghost use Rattle.wasm_image.specs.Hosts.{AreLinked};
 ghost use Rattle.wasm_machine.specs.Acts.{IsNext};
 ghost use Rattle.wasm_machine.specs.Configurations.{code_of};
 ghost use Rattle.wasm_machine.specs.declared.next.Next.TheVariants.{Goes as CodeGoes};
-ghost use Rattle.wasm_run.specs.Places.{IsAtOnce, IsFit, IsInOrder, IsNeverStuck, config_at};
+ghost use Rattle.wasm_run.specs.Places.{IsAtOnce, IsFit, IsInOrder, IsNeverStuck, config_at, index_answers};
 
 use crate::bytes::Bytes;
 use std::alloc::{AllocError, Global};
-use wasm_ast::{BlockType, Instr, Module};
+use wasm_ast::{BlockType, Instr, List, Module};
 use wasm_image::Image;
-use wasm_machine::branches::{br, br_if};
+use wasm_machine::branches::{br, br_if, br_table, return_values};
+use wasm_machine::calls::call;
 use wasm_machine::control::{block, end, if_else, nop, repeat};
 use wasm_machine::machine::Machine;
 use wasm_machine::memories::{load, store};
@@ -36,10 +38,33 @@ fn went(x: Next<u64>) -> bool
     }
 }
 
-/// Carries out the next instruction, or the end of a label, where it is a common one. The answer is whether it was; else
-/// nothing has changed.
+/// Carries out the next instruction, or the end of a label or a frame, where it is a common one. The answer is whether it
+/// was; else nothing has changed.
 #[inline(always)]
 pub fn at_once(
+    alloc: Global,
+    image: &Image,
+    steps: u64,
+    numbers: &mut Numbers,
+    s: &mut Machine<u64>,
+    memory: &mut Bytes,
+) -> Result<bool, AllocError>
+    requires linked { AreLinked image.now }
+    requires order { IsInOrder numbers.old s.old memory.old }
+    requires fit { IsFit steps (config_at image.now memory.old s.old) }
+    requires steps { steps < 2 ^ 63 }
+    requires sound { IsNeverStuck image.now steps (config_at image.now memory.old s.old) }
+    ensures { IfOk result (λ b. IsAtOnce b image.now steps s.old memory.old numbers.new s.new memory.new) }
+{
+    if common(alloc, image, steps, numbers, s, memory)? {
+        return Ok(true);
+    }
+    Ok(seldom(alloc, image, steps, numbers, s, memory)?)
+}
+
+// Those of the innermost loops.
+#[inline(always)]
+fn common(
     alloc: Global,
     image: &Image,
     steps: u64,
@@ -82,6 +107,45 @@ pub fn at_once(
     }
 }
 
+// Those that are met less often. They stand apart, since they would slow the others.
+#[inline(never)]
+fn seldom(
+    alloc: Global,
+    image: &Image,
+    steps: u64,
+    numbers: &mut Numbers,
+    s: &mut Machine<u64>,
+    memory: &mut Bytes,
+) -> Result<bool, AllocError>
+    requires linked { AreLinked image.now }
+    requires order { IsInOrder numbers.old s.old memory.old }
+    requires fit { IsFit steps (config_at image.now memory.old s.old) }
+    requires steps { steps < 2 ^ 63 }
+    requires sound { IsNeverStuck image.now steps (config_at image.now memory.old s.old) }
+    ensures { IfOk result (λ b. IsAtOnce b image.now steps s.old memory.old numbers.new s.new memory.new) }
+{
+    if !s.given().is_empty() {
+        return Ok(false);
+    }
+    let m = image.module();
+    match s.function() {
+        None => Ok(false),
+        Some(f) => match s.instruction(f, m) {
+            None => Ok(leave_frame(alloc, m, steps, numbers, s, memory)?),
+            Some(i) => match i {
+                Instr::Br(l) => Ok(branch_out(alloc, m, steps, numbers, s, memory, *l)?),
+                Instr::BrIf(l) => Ok(test_branch_out(alloc, m, steps, numbers, s, memory, *l)?),
+                Instr::BrTable { labels, last } => Ok(table_branch(
+                    alloc, m, steps, numbers, s, memory, labels, *last,
+                )?),
+                Instr::Call(x) => Ok(call_within(image, steps, numbers, s, memory, *x)?),
+                Instr::Return => Ok(give_results(alloc, m, steps, numbers, s, memory)?),
+                _ => Ok(false),
+            },
+        },
+    }
+}
+
 // The end of a label inside another.
 #[inline(always)]
 fn leave(
@@ -105,6 +169,39 @@ fn leave(
         return Ok(false);
     }
     Ok(went(end(alloc, numbers, s)?))
+}
+
+// The end of a function, where a frame waits for its results.
+#[inline(always)]
+fn leave_frame(
+    alloc: Global,
+    m: &Module,
+    steps: u64,
+    numbers: &mut Numbers,
+    s: &mut Machine<u64>,
+    memory: &Bytes,
+) -> Result<bool, AllocError>
+    requires order { IsInOrder numbers.old s.old memory.now }
+    requires fit { IsFit steps (config_at m.now memory.now s.old) }
+    requires steps { steps < 2 ^ 63 }
+    requires sound { IsNeverStuck m.now steps (config_at m.now memory.now s.old) }
+    requires first { s.old.answers ≡ [] }
+    requires over { slice_get (code_of m.now s.old.entry s.old.frame.func s.old.frame.here.seq) s.old.frame.here.place ≡ None }
+    requires inside { (f : ℕ) × (s.old.frame.func ≡ Some f) }
+    ensures { IfOk result (λ b. IsAtOnce b m.now steps s.old memory.now numbers.new s.new memory.now) }
+{
+    if s.depth() == 0 {
+        return Ok(false);
+    }
+    Ok(went(end(alloc, numbers, s)?))
+}
+
+// Whether l labels wait and one more, or a frame does.
+#[inline(always)]
+fn leads_on(s: &Machine<u64>, l: u32) -> bool
+    ensures { result ≡ (nat_lt l (length s.now.labels - s.now.frame.labels) || nat_lt 0 (length s.now.callers)) }
+{
+    (l as usize) < s.label_count() || s.depth() > 0
 }
 
 // An instruction that asks nothing, or whose questions are left to be asked.
@@ -154,6 +251,87 @@ fn straight(
     }
 }
 
+// `return`, where a frame waits for the results.
+#[inline(always)]
+fn give_results(
+    alloc: Global,
+    m: &Module,
+    steps: u64,
+    numbers: &mut Numbers,
+    s: &mut Machine<u64>,
+    memory: &Bytes,
+) -> Result<bool, AllocError>
+    requires order { IsInOrder numbers.old s.old memory.now }
+    requires fit { IsFit steps (config_at m.now memory.now s.old) }
+    requires steps { steps < 2 ^ 63 }
+    requires sound { IsNeverStuck m.now steps (config_at m.now memory.now s.old) }
+    requires first { s.old.answers ≡ [] }
+    requires place { s.old.frame.here.place + 1 < 2 ^ 64 }
+    requires next { IsNext m.now s.old OneInstr.Return }
+    ensures { IfOk result (λ b. IsAtOnce b m.now steps s.old memory.now numbers.new s.new memory.now) }
+{
+    if s.depth() == 0 {
+        return Ok(false);
+    }
+    Ok(went(return_values(alloc, numbers, s)?))
+}
+
+// `br`, where a frame waits for the results of this one.
+#[inline(always)]
+fn branch_out(
+    alloc: Global,
+    m: &Module,
+    steps: u64,
+    numbers: &mut Numbers,
+    s: &mut Machine<u64>,
+    memory: &Bytes,
+    l: u32,
+) -> Result<bool, AllocError>
+    requires order { IsInOrder numbers.old s.old memory.now }
+    requires fit { IsFit steps (config_at m.now memory.now s.old) }
+    requires steps { steps < 2 ^ 63 }
+    requires sound { IsNeverStuck m.now steps (config_at m.now memory.now s.old) }
+    requires first { s.old.answers ≡ [] }
+    requires place { s.old.frame.here.place + 1 < 2 ^ 64 }
+    requires next { IsNext m.now s.old (OneInstr.Br l) }
+    ensures { IfOk result (λ b. IsAtOnce b m.now steps s.old memory.now numbers.new s.new memory.now) }
+{
+    if s.depth() == 0 {
+        return Ok(false);
+    }
+    Ok(went(br(alloc, numbers, s, l)?))
+}
+
+// `br_if`, where a frame waits for the results of this one.
+#[inline(always)]
+fn test_branch_out(
+    alloc: Global,
+    m: &Module,
+    steps: u64,
+    numbers: &mut Numbers,
+    s: &mut Machine<u64>,
+    memory: &Bytes,
+    label: u32,
+) -> Result<bool, AllocError>
+    requires order { IsInOrder numbers.old s.old memory.now }
+    requires fit { IsFit steps (config_at m.now memory.now s.old) }
+    requires steps { steps < 2 ^ 63 }
+    requires sound { IsNeverStuck m.now steps (config_at m.now memory.now s.old) }
+    requires first { s.old.answers ≡ [] }
+    requires place { s.old.frame.here.place + 1 < 2 ^ 64 }
+    requires next { IsNext m.now s.old (OneInstr.BrIf label) }
+    ensures { IfOk result (λ b. IsAtOnce b m.now steps s.old memory.now numbers.new s.new memory.now) }
+{
+    if s.depth() == 0 {
+        return Ok(false);
+    }
+    let Some(w) = s.word(0, false) else {
+        return Ok(false);
+    };
+    s.note((w != 0) as u64)?;
+    Ok(went(br_if(alloc, numbers, s, label)?))
+}
+
 // `br_if` to a label that isn't the last of its frame.
 #[inline(always)]
 fn test_branch(
@@ -182,6 +360,99 @@ fn test_branch(
     };
     s.note((w != 0) as u64)?;
     Ok(went(br_if(alloc, numbers, s, l)?))
+}
+
+// The label of `br_table` at an index: the last one past the others.
+#[inline(always)]
+fn label_at(labels: &[u32], last: u32, w: u64) -> u32
+    requires { w < 2 ^ 32 }
+    ensures { result ≡ slice_index_or labels.now w last }
+{
+    match labels.get(w as usize) {
+        Some(l) => *l,
+        None => last,
+    }
+}
+
+// The answers to the questions of `br_table` with n labels, where there are none yet.
+#[inline(always)]
+fn put_index(answers: &mut Vec<u64>, w: u64, n: usize) -> Result<(), AllocError>
+    requires { answers.old.items ≡ [] }
+    ensures { OnOk result (answers.new.items ≡ index_answers n w) }
+{
+    let at = w as usize;
+    answers.resize(at.min(n), 1)?;
+    if at < n {
+        answers.push(0)?;
+    }
+    Ok(())
+}
+
+// The questions of `br_table` have had their answers: whether the index w is another than each place, up to its own.
+#[inline(always)]
+fn note_index(s: &mut Machine<u64>, w: u64, n: usize) -> Result<(), AllocError>
+    requires { s.old.answers ≡ [] }
+    ensures { OnOk result (s.new ≡ record (s.old) { answers = index_answers n w }) }
+{
+    put_index(&mut s.answers, w, n)?;
+    Ok(())
+}
+
+// `br_table`
+#[inline(always)]
+fn table_branch(
+    alloc: Global,
+    m: &Module,
+    steps: u64,
+    numbers: &mut Numbers,
+    s: &mut Machine<u64>,
+    memory: &Bytes,
+    labels: &List<u32>,
+    last: u32,
+) -> Result<bool, AllocError>
+    requires order { IsInOrder numbers.old s.old memory.now }
+    requires fit { IsFit steps (config_at m.now memory.now s.old) }
+    requires steps { steps < 2 ^ 63 }
+    requires sound { IsNeverStuck m.now steps (config_at m.now memory.now s.old) }
+    requires first { s.old.answers ≡ [] }
+    requires place { s.old.frame.here.place + 1 < 2 ^ 64 }
+    requires next { IsNext m.now s.old (OneInstr.BrTable labels.now last) }
+    ensures { IfOk result (λ b. IsAtOnce b m.now steps s.old memory.now numbers.new s.new memory.now) }
+{
+    let Some(w) = s.word(0, false) else {
+        return Ok(false);
+    };
+    let l = label_at(labels.as_slice(), last, w);
+    if !leads_on(s, l) {
+        return Ok(false);
+    }
+    note_index(s, w, labels.as_slice().len())?;
+    Ok(went(br_table(alloc, numbers, s, labels, last)?))
+}
+
+// A call of a function of the module's own.
+#[inline(always)]
+fn call_within(
+    image: &Image,
+    steps: u64,
+    numbers: &mut Numbers,
+    s: &mut Machine<u64>,
+    memory: &Bytes,
+    x: u32,
+) -> Result<bool, AllocError>
+    requires linked { AreLinked image.now }
+    requires order { IsInOrder numbers.old s.old memory.now }
+    requires fit { IsFit steps (config_at image.now memory.now s.old) }
+    requires steps { steps < 2 ^ 63 }
+    requires sound { IsNeverStuck image.now steps (config_at image.now memory.now s.old) }
+    requires place { s.old.frame.here.place + 1 < 2 ^ 64 }
+    requires next { IsNext image.now s.old (OneInstr.Call x) }
+    ensures { IfOk result (λ b. IsAtOnce b image.now steps s.old memory.now numbers.new s.new memory.now) }
+{
+    match image.host(x) {
+        Some(_) => Ok(false),
+        None => Ok(went(call(numbers, s, image, x)?)),
+    }
 }
 
 // `if`

@@ -1,8 +1,6 @@
 use Rattle.std.proofs.Common.{◌≡◌, length, sym, ap, ◌∙◌}
-use Rattle.wasm_check.specs.Operands.{operands}
 use Rattle.wasm_check.specs.Lists.{listed}
-use Rattle.wasm_check.specs.Runs.{known, peeked, labels_in}
-use Rattle.wasm_check.specs.Checker.{popped}
+use Rattle.wasm_check.specs.Runs.{known, labels_in}
 use Rattle.wasm_check.proofs.Carrying.{is-not-there, was-seen, has-other-count, is-refused, seen-more}
 use Rattle.wasm_check.proofs.open.fits_one.Goals as goal
 
@@ -25,21 +23,25 @@ returns-then-list-clause-fits c =
     has-other-count (labels_in types c.args.own c.args.outer.now) (listed types c.args.wanted) (known types c.args.s.now) c.args.k (listed types c.in-Some.list) c.in-Some.ensures
     (λ e. c.if-list.true (here ∙ e ∙ sym there))
 
-pub returns-then-not-take_list-clause-fits : goal.returns-then-not-take_list-clause-fits
-returns-then-not-take_list-clause-fits c =
+pub can_take-requires-clause-count : goal.can_take-requires-clause-count
+can_take-requires-clause-count c =
+    let types = c.args.scope.now.types in
+    let here : length c.list.result.now ≡ length (listed types c.in-Some.list) = ap (λ l. length l) c.list.ensures in
+    let there : length c.list-2.result.now ≡ length (listed types c.args.wanted) = ap (λ l. length l) c.list-2.ensures in
+    sym here ∙ c.if-list.false ∙ there
+
+pub returns-then-not-can_take-clause-fits : goal.returns-then-not-can_take-clause-fits
+returns-then-not-can_take-clause-fits c =
     let types = c.args.scope.now.types in
     is-refused (labels_in types c.args.own c.args.outer.now) (listed types c.args.wanted) (known types c.args.s.now) c.args.k (listed types c.in-Some.list) c.in-Some.ensures
-    (ap (popped (operands (listed types c.in-Some.list))) (sym c.peek-rest.ensures) ∙ c.if-not-take_list.ensures)
+    c.if-not-can_take.ensures
 
 pub returns-clause-fits : goal.returns-clause-fits
 returns-clause-fits c =
     let types = c.args.scope.now.types in
     let here : length c.list.result.now ≡ length (listed types c.in-Some.list) = ap (λ l. length l) c.list.ensures in
-    let there : length c.list-2.result.now ≡ length (listed types c.args.wanted) = ap (λ l. length l) c.list-2.ensures in (
-      listed types c.in-Some.list,
-      c.in-Some.ensures,
-      (sym here ∙ c.if-list.false ∙ there, peeked types c.take_list.new.self, ap (popped (operands (listed types c.in-Some.list))) (sym c.peek-rest.ensures) ∙ c.if-not-take_list.ensures),
-    )
+    let there : length c.list-2.result.now ≡ length (listed types c.args.wanted) = ap (λ l. length l) c.list-2.ensures in
+    (listed types c.in-Some.list, c.in-Some.ensures, (sym here ∙ c.if-list.false ∙ there, c.if-not-can_take.ensures.0, c.if-not-can_take.ensures.1))
 
 pub returns-clause-pass : goal.returns-clause-pass
 returns-clause-pass c =
@@ -47,4 +49,4 @@ returns-clause-pass c =
     let here : length c.list.result.now ≡ length (listed types c.in-Some.list) = ap (λ l. length l) c.list.ensures in
     let there : length c.list-2.result.now ≡ length (listed types c.args.wanted) = ap (λ l. length l) c.list-2.ensures in
     seen-more types (listed types c.args.wanted) (known types c.args.s.now) c.args.seen.now c.put.new.self c.in-Some.list c.requires.pass c.in_ok-put.ensures
-    (sym here ∙ c.if-list.false ∙ there, peeked types c.take_list.new.self, ap (popped (operands (listed types c.in-Some.list))) (sym c.peek-rest.ensures) ∙ c.if-not-take_list.ensures)
+    (sym here ∙ c.if-list.false ∙ there, c.if-not-can_take.ensures.0, c.if-not-can_take.ensures.1)

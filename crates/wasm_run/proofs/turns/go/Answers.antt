@@ -17,6 +17,9 @@ returns-then-is_spent c =
     rw c.new-then-is_spent.ensures (run_is_bound c.args.request.now.image.now c.args.request.now.entry c.args.request.now.args.now c.args.request.now.input.now c.args.request.now.steps (config_at c.args.request.now.image.now c.turning.memory c.turning.s) c.turning.draws.items c.turning.invariant.place (sym (c.is_deep.ensures c.args.request.now.image.now c.turning.memory) ∙ c.if-is_deep.false)
     (sym ((rw c.module.ensures.module at c.is_spent.ensures) c.turning.memory) ∙ c.if-is_spent.true))
 
+pub at_once-requires-clause-linked : goal.at_once-requires-clause-linked
+at_once-requires-clause-linked c = c.requires.asked.can.ready.linked
+
 pub at_once-requires-clause-order : goal.at_once-requires-clause-order
 at_once-requires-clause-order c = c.turning.invariant.order
 
