@@ -146,8 +146,8 @@ MODULES = [
     ("100,000 blocks of lists of two types", lambda: overlaps(100_000, [I32, I64])),
     ("250 br_tables that aren't reached", lambda: unreached(500)),
     ("500 br_tables that aren't reached", lambda: unreached(1_000)),
-    ("250 br_tables above a select", lambda: unreached(500, b"\x1b")),
-    ("500 br_tables above a select", lambda: unreached(1_000, b"\x1b")),
+    ("1,000 br_tables that aren't reached", lambda: unreached(2_000)),
+    ("1,000 br_tables above a select", lambda: unreached(2_000, b"\x1b")),
 ]
 
 

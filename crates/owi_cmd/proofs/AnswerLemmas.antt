@@ -10,7 +10,8 @@ use Rattle.wasm_ast.specs.declared.runs.Value.{Value}
 use Rattle.wasm_ast.specs.declared.runs.Value.TheVariants.{I32, I64, Func, Extern}
 use Rattle.wasm_image.specs.Entries.{IsEntry}
 use Rattle.wasm_image.specs.Ready.{IsReady}
-use Rattle.wasm_run.specs.Bounded.{IsOfModule, CanRun}
+use Rattle.wasm_soundness.specs.Laws.{NamesFunction}
+use Rattle.wasm_run.specs.Bounded.{CanRun}
 use Rattle.owi_cmd.specs.Report.{is_found}
 use Rattle.owi_cmd.specs.Rows.{status_of, only_row}
 use Rattle.owi_cmd.specs.Runs.{status_of_run}
@@ -78,21 +79,21 @@ of_ran status outcome is = elim (of_run outcome) [ inl found ↦ rw (is ∙ foun
 -- ---- what the words of a command give to the run
 
 -- an argument that a word spells refers to no function
-refers : (m : Module) (word : List ℕ) (v : Value) → IsArgument word v → IsOfModule m v
+refers : (m : Module) (word : List ℕ) (v : Value) → IsArgument word v → NamesFunction m v
 refers m word (I32 n) a = tt
 refers m word (I64 n) a = tt
 refers m word (Func None) a = tt
 refers m word (Func (Some f)) a = absurd a
 refers m word Extern a = tt
 
-each_refers : (m : Module) (words : List (List ℕ)) (args : List Value) → AllZip IsArgument words args → AllByRecursion (IsOfModule m) args
+each_refers : (m : Module) (words : List (List ℕ)) (args : List Value) → AllZip IsArgument words args → AllByRecursion (NamesFunction m) args
 each_refers m [] [] zipped = tt
 each_refers m [] (v ∷ vs) zipped = absurd zipped
 each_refers m (w ∷ ws) [] zipped = absurd zipped
 each_refers m (w ∷ ws) (v ∷ vs) zipped = (refers m w v zipped.0, each_refers m ws vs zipped.1)
 
-all_refer : (m : Module) (words : List (List ℕ)) (args : List Value) → AllZip IsArgument words args → All (IsOfModule m) args
-all_refer m words args zipped = All-from_recursion (IsOfModule m) args (each_refers m words args zipped)
+all_refer : (m : Module) (words : List (List ℕ)) (args : List Value) → AllZip IsArgument words args → All (NamesFunction m) args
+all_refer m words args zipped = All-from_recursion (NamesFunction m) args (each_refers m words args zipped)
 
 -- an option is in its range
 in_range : (name : List ℕ) (least most usual n : ℕ) (words : List (List ℕ)) → least ≤ usual → usual ≤ most → IsOption name least most usual words n → (least ≤ n) × (n ≤ most)

@@ -1,5 +1,5 @@
 -- Calls, returns and branches out of a frame that are carried out at once: that they go on where a frame waits.
-use Rattle.std.proofs.Common.{◌≡◌, ℕ, zero, suc, ◌+◌, ◌-◌, ◌^◌, ◌<◌, ◌≤◌, List, [], ◌∷◌, map, length, reverse, refl, sym, ap, ◌∙◌, subst, arith}
+use Rattle.std.proofs.Common.{◌≡◌, ℕ, zero, suc, ◌+◌, ◌-◌, ◌^◌, ◌<◌, ◌≤◌, List, [], ◌∷◌, map, drop, length, reverse, refl, sym, ap, ◌∙◌, subst, arith}
 use Rattle.std.specs.Prelude.{Bool, true, false, ◌||◌, nat_lt, slice_get, Option, Some, None}
 use Rattle.std.proofs.lemmas.Bool.Decides.{nat_tests}
 use Rattle.wasm_ast.specs.declared.instructions.Instr.TheVariants.{Br, BrIf, Return, Call}
@@ -12,7 +12,7 @@ use Rattle.wasm_image.specs.Hosts.{IsHostFunction, AreLinked}
 use Rattle.wasm_reduction.specs.Configurations.{Value, Config, Goes}
 use Rattle.wasm_reduction.specs.Combinators.{holding, with_found}
 use Rattle.wasm_reduction.specs.Functions.{Code, defined_as, functions, type_of}
-use Rattle.wasm_reduction.specs.Control.{frame_of, calling, br}
+use Rattle.wasm_reduction.specs.Control.{frame_of, calling, call, br}
 use Rattle.wasm_reduction.proofs.ImageFunctions.{runs-code}
 use Rattle.wasm_machine.specs.declared.values.Value.{Value as CodeValue}
 use Rattle.wasm_machine.specs.Configurations.{image}
@@ -67,9 +67,9 @@ module _ (m : Module) (b : List ℕ) (s : State (CodeValue ℕ)) where
   none-past (x ∷ xs) zero e = absurd cc
   none-past (x ∷ xs) (suc k) e = omega (arith, none-past xs k e)
 
-  -- a call of a function that is no host function
-  pub call-plain : {A : Type 0} (a : A) (x : ℕ) → AreLinked m → ((h : Host) → IsHostFunction m x h → ⊥) → IsPlain (acts_at m b s s.answers (Call x))
-  call-plain a x linked none = by (slice_get m.funcs (x - length (imported_functions m))) refl
+  -- a call of a function that is no host function, where k operands lie above its arguments and j answers were given before
+  pub function-plain : {A : Type 0} (a : A) (x k j : ℕ) → AreLinked m → ((h : Host) → IsHostFunction m x h → ⊥) → IsPlain (call numbers m (past_at m b s) (drop k (own (image (λ n. n) s))) (drop j s.answers) x)
+  function-plain a x k j linked none = by (slice_get m.funcs (x - length (imported_functions m))) refl
     where
       own_one : x ≡ length (imported_functions m) + (x - length (imported_functions m))
       own_one = decide (nat_lt x (length (imported_functions m))) refl
@@ -78,11 +78,14 @@ module _ (m : Module) (b : List ℕ) (s : State (CodeValue ℕ)) where
           decide true is = absurd (linked-host m x linked none (grind (arith, nat_tests, is)))
           decide false is = let above : length (imported_functions m) ≤ x = grind (arith, nat_tests, is) in omega (arith, above)
 
-      by : (o : Option Func) → slice_get m.funcs (x - length (imported_functions m)) ≡ o → IsPlain (acts_at m b s s.answers (Call x))
+      by : (o : Option Func) → slice_get m.funcs (x - length (imported_functions m)) ≡ o → IsPlain (call numbers m (past_at m b s) (drop k (own (image (λ n. n) s))) (drop j s.answers) x)
       by (Some f) e =
           subst IsPlain
-          (sym (ap (λ o. with_found o (λ f. calling numbers m (past_at m b s) (own (image (λ n. n) s)) s.answers f f.body)) (ap (λ x. slice_get (functions m) x) own_one ∙ runs-code m (x - length (imported_functions m)) f e)))
-          (plain-code (past_at m b s) (own (image (λ n. n) s)) s.answers f)
+          (sym (ap (λ o. with_found o (λ f. calling numbers m (past_at m b s) (drop k (own (image (λ n. n) s))) (drop j s.answers) f f.body)) (ap (λ x. slice_get (functions m) x) own_one ∙ runs-code m (x - length (imported_functions m)) f e)))
+          (plain-code (past_at m b s) (drop k (own (image (λ n. n) s))) (drop j s.answers) f)
       by None e =
           let past : length m.funcs ≤ x - length (imported_functions m) = none-past m.funcs (x - length (imported_functions m)) e in
-          subst IsPlain (sym ((calls-none (λ _ w. w < 2 ^ 64) (λ _ n. n) numbers m a s x 0 0 (omega (arith, past, own_one))).gives (map (λ n. n) b))) refl
+          subst IsPlain (sym ((calls-none (λ _ w. w < 2 ^ 64) (λ _ n. n) numbers m a s x k j (omega (arith, past, own_one))).gives (map (λ n. n) b))) refl
+
+  pub call-plain : {A : Type 0} (a : A) (x : ℕ) → AreLinked m → ((h : Host) → IsHostFunction m x h → ⊥) → IsPlain (acts_at m b s s.answers (Call x))
+  call-plain a x linked none = function-plain a x 0 0 linked none

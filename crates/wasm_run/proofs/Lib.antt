@@ -11,3 +11,5 @@ pub mod AccessQuickLemmas
 pub mod TestLemmas
 pub mod CallQuickLemmas
 pub mod TableQuickLemmas
+pub mod RareQuickLemmas
+pub mod EntryQuickLemmas

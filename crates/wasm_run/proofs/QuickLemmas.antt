@@ -15,7 +15,7 @@ use Rattle.int_ops.specs.declared.operators.Operation.{Operation}
 use Rattle.int_ops.specs.declared.operators.Operation.TheVariants.{OfOne, OfTwo}
 use Rattle.int_ops.specs.declared.operators.Operator.{Operator}
 use Rattle.int_ops.specs.Operators.{operator_of, divides, is_div_s}
-use Rattle.wasm_reduction.specs.Configurations.{Value, Label, Frame, Config, Stuck, Next, Goes, Draws, Asks, Ends}
+use Rattle.wasm_reduction.specs.Configurations.{Value, Label, Frame, Config, Test, Stuck, Next, Goes, Draws, Asks, Ends}
 use Rattle.wasm_reduction.specs.Combinators.{with_found, with_value, with_word, with_last, word_of}
 use Rattle.wasm_reduction.specs.Control.{give_back, finish, entering, given, block, loop, branch, br, return}
 use Rattle.wasm_reduction.specs.Numeric.{checking, operating, numeric, is_wide}
@@ -48,11 +48,11 @@ IsPlain (Draws wide c) = ⊥
 IsPlain (Asks q w) = ⊥
 IsPlain (Ends e) = e ≡ Stuck
 
--- it goes on, asks, or is stuck
+-- it goes on, asks to test a word, or is stuck
 abbrev pub MayAsk : Next ℕ → Type 0
 MayAsk (Goes c) = Unit {0}
 MayAsk (Draws wide c) = ⊥
-MayAsk (Asks q w) = Unit {0}
+MayAsk (Asks q w) = q ≡ Test
 MayAsk (Ends e) = e ≡ Stuck
 
 -- what holds of Stuck and of each way on holds of what they are put together to
@@ -144,7 +144,7 @@ plain_global_set c vs x = keeps_found IsPlain refl (slice_get c.store.globals x)
 -- a numeric instruction that has had no answer
 ask_checking : (divides signed : Bool) (width : Width) (a b : ℕ) (next : Next ℕ) → MayAsk next → MayAsk (checking numbers divides signed width a b [] next)
 ask_checking false signed width a b next h = h
-ask_checking true signed width a b next h = tt
+ask_checking true signed width a b next h = refl
 
 ask_operating : (c : Config ℕ) (vs : List (Value ℕ)) (op : ℕ) (o : Operator) (operation : Operation) → MayAsk (operating numbers c vs [] op o operation)
 ask_operating c vs op o (OfOne operation) = keeps_word MayAsk refl (is_wide o.operand) vs _ (λ a rest. tt)

@@ -26,8 +26,7 @@ use Rattle.wasm_reduction.proofs.Endings.{Ready, Falls, weight, left, moves-unit
 use Rattle.wasm_reduction.proofs.OneRun.{begins, Begins}
 use Rattle.wasm_reduction.proofs.WideSteps.{step-wide, answered-wide, symbol-wide}
 use Rattle.wasm_reduction.proofs.WideStarts.{code-in-range, first-wide}
-use Rattle.wasm_run.specs.Bounded.{IsOfModule, RunGives}
-use Rattle.wasm_soundness.specs.Laws.{NamesFunction}
+use Rattle.wasm_run.specs.Bounded.{RunGives}
 use Rattle.wasm_run.specs.Places.{IsAsked, Place, IsFree, IsFit, Settled}
 use Rattle.wasm_run.proofs.PlaceLemmas.{turn_last, place_goes, place_draws, place_settled, run_ends, run_is_over}
 
@@ -264,18 +263,3 @@ ends_at_once m entry args input steps e outcome is known = record {
 -- a run that is never stuck doesn't begin so
 pub never_begins_stuck : (m : Module) (entry : ℕ) (args : List Argument) (input : List ℕ) (steps : ℕ) → ((n : ℕ) (trace : Trace) → runs_at m entry args input steps n ≢ Over (Ended Stuck) trace) → first_config numbers m entry args ≢ Err Stuck
 never_begins_stuck m entry args input steps never is = never 0 no_trace (ap (λ x. then_follow (started_by x) (follows numbers (taken input) by_value m steps 0)) is)
-
--- the references to functions that a run may be given are those of which soundness speaks
-pub names_function : (m : Module) (v : Argument) → IsOfModule m v → NamesFunction m v
-names_function m (I32Argument n) h = tt
-names_function m (I64Argument n) h = tt
-names_function m (FuncArgument (Some f)) h = h
-names_function m (FuncArgument None) h = tt
-names_function m ExternArgument h = tt
-
-pub name_functions : (m : Module) (args : List Argument) → All (IsOfModule m) args → All (NamesFunction m) args
-name_functions m args h = All-from_recursion (NamesFunction m) args (each args (recursion_from_All (IsOfModule m) args h))
-  where
-    each : (args : List Argument) → AllByRecursion (IsOfModule m) args → AllByRecursion (NamesFunction m) args
-    each [] h = h
-    each (v ∷ vs) h = (names_function m v h.0, each vs h.1)

@@ -1,29 +1,23 @@
 -- What the call of a run asks for, and what it gives.
-use Rattle.std.specs.Prelude.{◌≡◌, ℕ, ◌<◌, ◌≤◌, List, All, Some}
+use Rattle.std.specs.Prelude.{◌≡◌, ℕ, ◌≤◌, List, All}
 use Rattle.wasm_ast.specs.declared.modules.Module.{Module}
 use Rattle.wasm_ast.specs.declared.runs.Ran.{Ran}
 use Rattle.wasm_ast.specs.declared.runs.Value.{Value}
-use Rattle.wasm_ast.specs.declared.runs.Value.TheVariants.{Func}
 use Rattle.wasm_image.specs.Entries.{AreArguments}
-use Rattle.wasm_image.specs.Functions.{function_count}
 use Rattle.wasm_image.specs.Ready.{IsReady}
 use Rattle.wasm_reduction.specs.Runs.{Run, IsRun, ran_of}
+use Rattle.wasm_soundness.specs.Laws.{NamesFunction}
 
 -- the most units that a run may be given
 abbrev pub most_steps : ℕ
 most_steps = 10000000
-
--- an argument that refers to a function refers to one of the module, imports counted
-abbrev pub IsOfModule : Module → Value → Type 0
-IsOfModule m (Func (Some f)) = f < function_count m
-IsOfModule m v = Unit {0}
 
 -- The module can be run, these arguments fit the function entry (Execution, Modules: Invocation), and the bound on steps is
 -- one that a run may have.
 pub record CanRun (m : Module) (entry : ℕ) (args : List Value) (steps : ℕ) : Type 0 where
   pub ready : IsReady m
   pub fit : AreArguments m entry args
-  pub refer : All (IsOfModule m) args
+  pub refer : All (NamesFunction m) args
   pub least : 1 ≤ steps
   pub most : steps ≤ most_steps
 

@@ -1,10 +1,15 @@
 -- Where the loop of a bounded run stands. No public contract speaks of these.
-use Rattle.std.specs.Prelude.{◌≡◌, ◌≢◌, ℕ, zero, suc, [], ◌∷◌, ◌^◌, ◌<◌, ◌≤◌, List, All, map, Bool, true, false, ◌&&◌, nat_lt, nat_le, length}
+use Rattle.std.specs.Prelude.{slice_get, Some, ◌≡◌, ◌≢◌, ℕ, zero, suc, [], ◌∷◌, ◌^◌, ◌<◌, ◌≤◌, List, All, map, Bool, true, false, ◌&&◌, nat_lt, nat_le, length}
 use Rattle.std.specs.List.{AllByRecursion}
 use Rattle.wasm_ast.specs.declared.modules.Module.{Module}
 use Rattle.wasm_ast.specs.declared.runs.Draw.{Draw}
 use Rattle.wasm_ast.specs.declared.runs.Value.{Value}
+use Rattle.wasm_ast.specs.declared.types.FuncType.{FuncType}
 use Rattle.wasm_rules.specs.Words.{HasNumber, numbers}
+use Rattle.wasm_image.specs.declared.hosts.Host.{Host}
+use Rattle.wasm_image.specs.Functions.{function_type}
+use Rattle.wasm_image.specs.Hosts.{IsHostFunction}
+use Rattle.wasm_reduction.specs.Functions.{same_function_type}
 use Rattle.wasm_check.specs.Modules.{IsValid}
 use Rattle.wasm_reduction.specs.Configurations.{Config, End, Next, Goes, Ends, Stuck}
 use Rattle.wasm_reduction.specs.Steps.{step}
@@ -13,10 +18,13 @@ use Rattle.wasm_reduction.specs.Widths.{HasNumbers, ArgumentFits, HasWidths}
 use Rattle.wasm_reduction.proofs.Endings.{Ready}
 use Rattle.wasm_machine.specs.declared.next.Next.{Next as CodeNext}
 use Rattle.wasm_machine.specs.declared.next.Next.TheVariants.{Goes as CodeGoes, Draws as CodeDraws, Asks as CodeAsks, Ends as CodeEnds}
+use Rattle.wasm_machine.specs.declared.values.Reference.{Reference}
+use Rattle.wasm_machine.specs.declared.values.Reference.TheVariants.{Func as FuncTo}
 use Rattle.wasm_machine.specs.declared.values.Value.{Value as CodeValue}
 use Rattle.wasm_machine.specs.Acts.{Sane, told}
 use Rattle.wasm_machine.specs.Configurations.{configuration}
 use Rattle.wasm_machine.specs.States.{State}
+use Rattle.wasm_machine.specs.Stores.{list_at}
 use Rattle.wasm_run.specs.Bounded.{CanRun}
 
 -- what is known of a run that is asked for; it is never stuck
@@ -105,3 +113,24 @@ abbrev pub index_answers : ℕ → ℕ → List ℕ
 index_answers zero w = []
 index_answers (suc n) zero = 0 ∷ []
 index_answers (suc n) (suc w) = 1 ∷ index_answers n w
+
+-- the function f is the module's own and of this type
+pub record IsOwnFunction (m : Module) (type : FuncType) (f : ℕ) : Type 0 where
+  pub has : FuncType
+  pub no_host : (h : Host) → IsHostFunction m f h → ⊥
+  pub has_type : function_type m f ≡ Some has
+  pub same : same_function_type has type ≡ true
+
+-- a reference to such a function
+pub record IsOwnReference (m : Module) (type : FuncType) (r : Reference) : Type 0 where
+  pub f : ℕ
+  pub is : r ≡ FuncTo (Some f)
+  pub own_one : IsOwnFunction m type f
+
+-- the entry of a table at the index w is such a reference, of the type ty
+pub record IsOwnEntry (m : Module) (s : State (CodeValue ℕ)) (ty table w : ℕ) : Type 0 where
+  pub type : FuncType
+  pub r : Reference
+  pub typed : slice_get m.types ty ≡ Some type
+  pub there : slice_get (list_at s.tables table) w ≡ Some r
+  pub own_one : IsOwnReference m type r

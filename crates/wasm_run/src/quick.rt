@@ -2,27 +2,33 @@
 //
 // What a step says is large to move, and each question is a step of its own. Here the functions of the machine are called where
 // it is known that they go on, and with the answers that their questions will have.
-ghost use Rattle.std.specs.Prelude.{◌≡◌, ◌+◌, ◌-◌, ◌<◌, ◌^◌, ◌||◌, ℕ, [], IfOk, OnOk, None, Some, true, length, nat_le, nat_lt, slice_get, slice_index_or};
+ghost use Rattle.std.specs.Prelude.{List as Items, ◌≡◌, ◌+◌, ◌-◌, ◌<◌, ◌^◌, ◌||◌, ℕ, [], IfOk, MatchOption, OnOk, None, Some, true, length, nat_le, nat_lt, slice_get, slice_index_or};
 ghost use Rattle.wasm_ast.specs.declared.instructions.Instr.{Instr as OneInstr};
+ghost use Rattle.wasm_rules.specs.Words.{numbers as words};
 ghost use Rattle.wasm_image.specs.Hosts.{AreLinked};
+ghost use Rattle.wasm_reduction.specs.Configurations.{Config, Value as OneValue};
+ghost use Rattle.wasm_reduction.specs.Parametric.{select as select_of};
+ghost use Rattle.wasm_reduction.specs.Steps.{act};
 ghost use Rattle.wasm_machine.specs.Acts.{IsNext};
 ghost use Rattle.wasm_machine.specs.Configurations.{code_of};
 ghost use Rattle.wasm_machine.specs.declared.next.Next.TheVariants.{Goes as CodeGoes};
-ghost use Rattle.wasm_run.specs.Places.{IsAtOnce, IsFit, IsInOrder, IsNeverStuck, config_at, index_answers};
+ghost use Rattle.wasm_run.specs.Places.{IsAtOnce, IsFit, IsInOrder, IsNeverStuck, IsOwnEntry, IsOwnFunction, IsOwnReference, config_at, index_answers};
 
 use crate::bytes::Bytes;
 use std::alloc::{AllocError, Global};
-use wasm_ast::{BlockType, Instr, List, Module};
+use wasm_ast::equals::Same;
+use wasm_ast::{BlockType, FuncType, Instr, List, Module};
 use wasm_image::Image;
 use wasm_machine::branches::{br, br_if, br_table, return_values};
-use wasm_machine::calls::call;
+use wasm_machine::calls::{call, call_indirect};
 use wasm_machine::control::{block, end, if_else, nop, repeat};
 use wasm_machine::machine::Machine;
 use wasm_machine::memories::{load, store};
 use wasm_machine::memory::Memory;
 use wasm_machine::next::Next;
 use wasm_machine::numeric::{const32, const64, num};
-use wasm_machine::parametric::discard;
+use wasm_machine::parametric::{discard, select};
+use wasm_machine::values::Reference;
 use wasm_machine::variables::{global_get, global_set, local_get, local_set, local_tee};
 use wasm_rules::{Access, Numbers};
 
@@ -139,7 +145,13 @@ fn seldom(
                     alloc, m, steps, numbers, s, memory, labels, *last,
                 )?),
                 Instr::Call(x) => Ok(call_within(image, steps, numbers, s, memory, *x)?),
+                Instr::CallIndirect { ty, table } => Ok(call_entry(
+                    image, steps, numbers, s, memory, *ty, *table,
+                )?),
                 Instr::Return => Ok(give_results(alloc, m, steps, numbers, s, memory)?),
+                Instr::Select => Ok(choose(m, steps, numbers, s, memory, i)?),
+                Instr::SelectTyped(_) => Ok(choose(m, steps, numbers, s, memory, i)?),
+                Instr::Num(op) => Ok(divide(m, steps, numbers, s, memory, *op)?),
                 _ => Ok(false),
             },
         },
@@ -430,6 +442,87 @@ fn table_branch(
     Ok(went(br_table(alloc, numbers, s, labels, last)?))
 }
 
+// `select`. Of two words it asks nothing, of two references about its condition.
+#[inline(always)]
+fn choose(
+    m: &Module,
+    steps: u64,
+    numbers: &mut Numbers,
+    s: &mut Machine<u64>,
+    memory: &Bytes,
+    i: &Instr,
+) -> Result<bool, AllocError>
+    requires order { IsInOrder numbers.old s.old memory.now }
+    requires fit { IsFit steps (config_at m.now memory.now s.old) }
+    requires steps { steps < 2 ^ 63 }
+    requires sound { IsNeverStuck m.now steps (config_at m.now memory.now s.old) }
+    requires first { s.old.answers ≡ [] }
+    requires place { s.old.frame.here.place + 1 < 2 ^ 64 }
+    requires next { IsNext m.now s.old i.now }
+    requires selects { (c : Config ℕ) (vs : Items (OneValue ℕ)) (ns : Items ℕ) → act words m.now c vs ns i.now ≡ select_of words c vs ns }
+    ensures { IfOk result (λ b. IsAtOnce b m.now steps s.old memory.now numbers.new s.new memory.now) }
+{
+    match select(numbers, s)? {
+        Next::Goes => Ok(true),
+        Next::Asks(_, condition) => {
+            s.note((condition != 0) as u64)?;
+            Ok(went(select(numbers, s)?))
+        }
+        _ => unreachable!(),
+    }
+}
+
+// The next instruction has had no answers.
+#[inline(always)]
+fn forget(s: &mut Machine<u64>)
+    ensures { s.new ≡ record (s.old) { answers = [] } }
+{
+    s.answers.clear();
+}
+
+// A division that doesn't trap: neither is its divisor 0, nor its signed quotient too large.
+#[inline(always)]
+fn divide(
+    m: &Module,
+    steps: u64,
+    numbers: &mut Numbers,
+    s: &mut Machine<u64>,
+    memory: &Bytes,
+    op: u8,
+) -> Result<bool, AllocError>
+    requires order { IsInOrder numbers.old s.old memory.now }
+    requires fit { IsFit steps (config_at m.now memory.now s.old) }
+    requires steps { steps < 2 ^ 63 }
+    requires sound { IsNeverStuck m.now steps (config_at m.now memory.now s.old) }
+    requires first { s.old.answers ≡ [] }
+    requires place { s.old.frame.here.place + 1 < 2 ^ 64 }
+    requires next { IsNext m.now s.old (OneInstr.Num op) }
+    ensures { IfOk result (λ b. IsAtOnce b m.now steps s.old memory.now numbers.new s.new memory.now) }
+{
+    match num(numbers, s, op)? {
+        Next::Goes => Ok(true),
+        Next::Asks(_, zero) => {
+            if zero != 0 {
+                return Ok(false);
+            }
+            s.note(0)?;
+            match num(numbers, s, op)? {
+                Next::Goes => Ok(true),
+                Next::Asks(_, large) => {
+                    if large != 0 {
+                        forget(s);
+                        return Ok(false);
+                    }
+                    s.note(0)?;
+                    Ok(went(num(numbers, s, op)?))
+                }
+                _ => unreachable!(),
+            }
+        }
+        _ => unreachable!(),
+    }
+}
+
 // A call of a function of the module's own.
 #[inline(always)]
 fn call_within(
@@ -453,6 +546,89 @@ fn call_within(
         Some(_) => Ok(false),
         None => Ok(went(call(numbers, s, image, x)?)),
     }
+}
+
+// A function type of the module.
+#[inline(always)]
+fn type_at(m: &Module, ty: u32) -> Option<&FuncType>
+    ensures { MatchOption result (slice_get m.now.types ty ≡ None) (λ t. slice_get m.now.types ty ≡ Some t.now) }
+{
+    m.types.as_slice().get(ty as usize)
+}
+
+// Whether a function is the module's own and of this type.
+#[inline(always)]
+fn is_own_function(image: &Image, t: &FuncType, f: u32) -> bool
+    ensures { result ≡ true → IsOwnFunction image.now t.now f }
+{
+    if f as usize >= image.function_count() {
+        return false;
+    }
+    match image.host(f) {
+        Some(_) => false,
+        None => image.function_type(f).same(t),
+    }
+}
+
+// Whether a reference is to such a function.
+#[inline(always)]
+fn is_own_reference(image: &Image, t: &FuncType, r: Reference) -> bool
+    ensures { result ≡ true → IsOwnReference image.now t.now r }
+{
+    match r {
+        Reference::Extern => false,
+        Reference::Func(function) => match function {
+            None => false,
+            Some(f) => is_own_function(image, t, f),
+        },
+    }
+}
+
+// Whether the entry of a table at this index is such a reference.
+#[inline(always)]
+fn is_own_entry(image: &Image, s: &Machine<u64>, ty: u32, table: u32, w: u64) -> bool
+    requires { w < 2 ^ 32 }
+    ensures { result ≡ true → IsOwnEntry image.now s.now ty table w }
+{
+    let Some(t) = type_at(image.module(), ty) else {
+        return false;
+    };
+    let Some(r) = s.element(table, w as usize) else {
+        return false;
+    };
+    is_own_reference(image, t, r)
+}
+
+// `call_indirect` of a function of the module's own.
+#[inline(always)]
+fn call_entry(
+    image: &Image,
+    steps: u64,
+    numbers: &mut Numbers,
+    s: &mut Machine<u64>,
+    memory: &Bytes,
+    ty: u32,
+    table: u32,
+) -> Result<bool, AllocError>
+    requires linked { AreLinked image.now }
+    requires order { IsInOrder numbers.old s.old memory.now }
+    requires fit { IsFit steps (config_at image.now memory.now s.old) }
+    requires steps { steps < 2 ^ 63 }
+    requires sound { IsNeverStuck image.now steps (config_at image.now memory.now s.old) }
+    requires first { s.old.answers ≡ [] }
+    requires place { s.old.frame.here.place + 1 < 2 ^ 64 }
+    requires next { IsNext image.now s.old (OneInstr.CallIndirect ty table) }
+    ensures { IfOk result (λ b. IsAtOnce b image.now steps s.old memory.now numbers.new s.new memory.now) }
+{
+    let Some(w) = s.word(0, false) else {
+        return Ok(false);
+    };
+    if !is_own_entry(image, s, ty, table, w) {
+        return Ok(false);
+    }
+    s.note(0)?;
+    s.note(w)?;
+    Ok(went(call_indirect(numbers, s, image, ty, table)?))
 }
 
 // `if`

@@ -6,7 +6,7 @@ use Rattle.wasm_check.specs.Contexts.{imported_memories}
 use Rattle.wasm_image.specs.Sizes.{most_pages}
 use Rattle.wasm_machine.specs.Starts.{stop_of}
 use Rattle.wasm_run.specs.Places.{config_at}
-use Rattle.wasm_run.proofs.ReachedLemmas.{own_are_small, begins_at, ends_at_once, never_begins_stuck, name_functions}
+use Rattle.wasm_run.proofs.ReachedLemmas.{own_are_small, begins_at, ends_at_once, never_begins_stuck}
 use Rattle.wasm_run.proofs.bounded.run.Goals as goal
 
 pub memory_pages-requires-clause-small : goal.memory_pages-requires-clause-small
@@ -27,7 +27,7 @@ go-requires-clause-place c =
 pub stopped-requires : goal.stopped-requires
 stopped-requires c stuck =
     never_begins_stuck c.args.image.now c.args.entry c.args.args.now c.args.input.now c.args.steps
-    (λ n trace. c.runs_are_never_stuck.ensures c.args.image.now c.args.entry c.args.args.now (taken c.args.input.now) by_value c.args.steps n (record { shape = c.module.ensures.shape; valid = c.module.ensures.valid; ready = c.requires.ready }) (record { types = c.requires.fit; named = name_functions c.args.image.now c.args.args.now c.requires.refer }) trace)
+    (λ n trace. c.runs_are_never_stuck.ensures c.args.image.now c.args.entry c.args.args.now (taken c.args.input.now) by_value c.args.steps n (record { shape = c.module.ensures.shape; valid = c.module.ensures.valid; ready = c.requires.ready }) (record { types = c.requires.fit; named = c.requires.refer }) trace)
     (rw c.module-3.ensures.module at (rw c.in-Ends.is at c.in_ok-s.ensures.begins) ∙ ap (λ stop. Err (stop_of stop)) stuck)
 
 pub go-requires-clause-asked : goal.go-requires-clause-asked
@@ -36,7 +36,7 @@ go-requires-clause-asked c = record {
   valid = c.module.ensures.valid;
   has_numbers = rw c.module.ensures.module at c.module_has_numbers.ensures;
   fitting = c.arguments_fit.ensures;
-  goes = λ input n trace. c.runs_are_never_stuck.ensures c.args.image.now c.args.entry c.args.args.now (taken input) by_value c.args.steps n (record { shape = c.module.ensures.shape; valid = c.module.ensures.valid; ready = c.requires.ready }) (record { types = c.requires.fit; named = name_functions c.args.image.now c.args.args.now c.requires.refer }) trace;
+  goes = λ input n trace. c.runs_are_never_stuck.ensures c.args.image.now c.args.entry c.args.args.now (taken input) by_value c.args.steps n (record { shape = c.module.ensures.shape; valid = c.module.ensures.valid; ready = c.requires.ready }) (record { types = c.requires.fit; named = c.requires.refer }) trace;
 }
 
 pub returns : goal.returns

@@ -1,4 +1,4 @@
-use Rattle.std.proofs.Common.{◌∙◌, ◌+◌, ◌-◌, ◌≡◌, ap, sym, subst, arith}
+use Rattle.std.proofs.Common.{◌∙◌, ◌+◌, ◌-◌, ◌≡◌, subst, arith}
 use Rattle.wasm_reduction.specs.Combinators.{part}
 use Rattle.wasm_run.specs.Pages.{Writes, cells_of}
 use Rattle.wasm_run.proofs.PageLemmas.{copied-down}

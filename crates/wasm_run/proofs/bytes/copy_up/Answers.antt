@@ -1,4 +1,4 @@
-use Rattle.std.proofs.Common.{◌∙◌, ◌+◌, arith}
+use Rattle.std.proofs.Common.{◌∙◌, arith}
 use Rattle.wasm_run.proofs.PageLemmas.{copied-up}
 use Rattle.wasm_run.proofs.bytes.copy_up.Goals as goal
 

@@ -1,7 +1,6 @@
-use Rattle.std.proofs.Common.{◌≡◌, ◌⊎◌, ⊎_elim, inl, inr, true, ◌∙◌, ◌+◌, ap, sym, subst, arith, length, get_or}
+use Rattle.std.proofs.Common.{⊎_elim, inl, inr, ◌∙◌, ◌+◌, ap, sym, subst, arith}
 use Rattle.std.proofs.lemmas.List.{length-set}
-use Rattle.wasm_reduction.specs.Memories.{page_bytes}
-use Rattle.wasm_run.specs.Pages.{AreHeld, Page}
+use Rattle.wasm_run.specs.Pages.{AreHeld}
 use Rattle.wasm_run.proofs.PageLemmas.{held-in, page-filled}
 use Rattle.wasm_run.proofs.bytes.fill.Goals as goal
 

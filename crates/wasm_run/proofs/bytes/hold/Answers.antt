@@ -1,7 +1,6 @@
 use Rattle.std.proofs.Common.{◌∙◌, arith}
 use Rattle.std.proofs.lemmas.List.{length-set}
-use Rattle.wasm_reduction.specs.Memories.{page_bytes}
-use Rattle.wasm_run.proofs.PageLemmas.{page-held, page-same, none-held, all-held}
+use Rattle.wasm_run.proofs.PageLemmas.{page-held, page-same}
 use Rattle.wasm_run.proofs.bytes.hold.Goals as goal
 
 pub returns-in_err-hold-clause-same : goal.returns-in_err-hold-clause-same

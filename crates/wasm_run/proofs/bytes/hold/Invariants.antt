@@ -1,6 +1,5 @@
-use Rattle.std.proofs.Common.{◌≡◌, ℕ, ◌+◌, ◌/◌, ◌<◌, ◌≤◌, length, slice_get, Some, true}
+use Rattle.std.proofs.Common.{◌≡◌, ◌/◌, length}
 use Rattle.wasm_reduction.specs.Memories.{page_bytes}
-use Rattle.wasm_run.specs.Pages.{AreWhole, cells_of, held_of}
 use Rattle.wasm_run.proofs.PageLemmas.{HeldSoFar}
 use Rattle.wasm_run.proofs.bytes.hold.Given as goal
 

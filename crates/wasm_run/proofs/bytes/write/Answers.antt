@@ -1,8 +1,7 @@
 use Rattle.std.proofs.Common.{◌∙◌, ◌+◌, ◌-◌, ap, sym, subst, arith, length, take, drop}
 use Rattle.std.proofs.lemmas.List.{length-set}
-use Rattle.wasm_reduction.specs.Memories.{page_bytes}
 use Rattle.wasm_run.specs.Pages.{AreHeld}
-use Rattle.wasm_run.proofs.PageLemmas.{held-in, page-written, cut_is, nothing-written}
+use Rattle.wasm_run.proofs.PageLemmas.{held-in, page-written, cut_is}
 use Rattle.wasm_run.proofs.bytes.write.Goals as goal
 
 pub write-requires-clause-held : goal.write-requires-clause-held

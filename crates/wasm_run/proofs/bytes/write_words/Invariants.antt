@@ -1,4 +1,4 @@
-use Rattle.std.proofs.Common.{◌≡◌, ◌≤◌, ◌-◌, length, take}
+use Rattle.std.proofs.Common.{◌≡◌, length, take}
 use Rattle.wasm_run.specs.Pages.{Writes}
 use Rattle.wasm_run.proofs.bytes.write_words.Given as goal
 

@@ -1,5 +1,7 @@
-use Rattle.std.proofs.Common.{◌∙◌, sym, subst}
-use Rattle.wasm_ast.specs.declared.instructions.Instr.TheVariants.{Call}
+use Rattle.std.proofs.Common.{◌∙◌, sym, subst, refl, ap}
+use Rattle.wasm_ast.specs.declared.instructions.Instr.TheVariants.{Call, CallIndirect}
+use Rattle.wasm_rules.specs.Words.{numbers}
+use Rattle.wasm_reduction.specs.Steps.{act}
 use Rattle.wasm_machine.specs.Acts.{IsNext}
 use Rattle.wasm_run.proofs.QuickLemmas.{none_given, fit_at, sound_at, once_at, next_by, over_by}
 use Rattle.wasm_run.proofs.quick.seldom.Goals as goal
@@ -147,3 +149,62 @@ returns-in_ok-give_results-in-Return c = once_at c.args.image.now c.module-m.res
 
 pub returns-in_ok-call_within-in-Call : goal.returns-in_ok-call_within-in-Call
 returns-in_ok-call_within-in-Call c = c.in_ok-call_within-in-Call.ensures
+
+pub choose-requires : goal.choose-requires
+choose-requires c = record {
+  order = c.requires.order;
+  fit = fit_at c.args.image.now c.module-m.result.now c.module-m.ensures.module c.args.steps c.args.s.now c.args.memory.now c.requires.fit;
+  steps = c.requires.steps;
+  sound = sound_at c.args.image.now c.module-m.result.now c.module-m.ensures.module c.args.steps c.args.s.now c.args.memory.now c.requires.sound;
+  first = sym c.given.ensures ∙ none_given c.given.result.now c.is_empty.result c.is_empty.ensures c.if-not-is_empty.false;
+  place = c.in-Some-instruction.ensures.room;
+  next = next_by c.module-m.result.now c.args.s.now c.in-Some.f c.in-Some-instruction.i.now _ (sym c.in-Some.is ∙ c.function.ensures) c.in-Some-instruction.ensures.there refl;
+  selects = λ d vs ns. ap (λ i. act numbers c.module-m.result.now d vs ns i) c.in-Select.is;
+}
+
+pub choose-requires-in-SelectTyped : goal.choose-requires-in-SelectTyped
+choose-requires-in-SelectTyped c = record {
+  order = c.requires.order;
+  fit = fit_at c.args.image.now c.module-m.result.now c.module-m.ensures.module c.args.steps c.args.s.now c.args.memory.now c.requires.fit;
+  steps = c.requires.steps;
+  sound = sound_at c.args.image.now c.module-m.result.now c.module-m.ensures.module c.args.steps c.args.s.now c.args.memory.now c.requires.sound;
+  first = sym c.given.ensures ∙ none_given c.given.result.now c.is_empty.result c.is_empty.ensures c.if-not-is_empty.false;
+  place = c.in-Some-instruction.ensures.room;
+  next = next_by c.module-m.result.now c.args.s.now c.in-Some.f c.in-Some-instruction.i.now _ (sym c.in-Some.is ∙ c.function.ensures) c.in-Some-instruction.ensures.there refl;
+  selects = λ d vs ns. ap (λ i. act numbers c.module-m.result.now d vs ns i) c.in-SelectTyped.is;
+}
+
+pub divide-requires : goal.divide-requires
+divide-requires c = record {
+  order = c.requires.order;
+  fit = fit_at c.args.image.now c.module-m.result.now c.module-m.ensures.module c.args.steps c.args.s.now c.args.memory.now c.requires.fit;
+  steps = c.requires.steps;
+  sound = sound_at c.args.image.now c.module-m.result.now c.module-m.ensures.module c.args.steps c.args.s.now c.args.memory.now c.requires.sound;
+  first = sym c.given.ensures ∙ none_given c.given.result.now c.is_empty.result c.is_empty.ensures c.if-not-is_empty.false;
+  place = c.in-Some-instruction.ensures.room;
+  next = next_by c.module-m.result.now c.args.s.now c.in-Some.f c.in-Some-instruction.i.now _ (sym c.in-Some.is ∙ c.function.ensures) c.in-Some-instruction.ensures.there c.in-Num.is;
+}
+
+pub returns-in_ok-choose-in-Select : goal.returns-in_ok-choose-in-Select
+returns-in_ok-choose-in-Select c = once_at c.args.image.now c.module-m.result.now c.module-m.ensures.module c.args.steps c.args.s.now c.args.memory.now c.in_ok-choose-in-Select.field-0 c.choose.new.numbers c.choose.new.s c.args.memory.now c.in_ok-choose-in-Select.ensures
+
+pub returns-in_ok-choose-in-SelectTyped : goal.returns-in_ok-choose-in-SelectTyped
+returns-in_ok-choose-in-SelectTyped c = once_at c.args.image.now c.module-m.result.now c.module-m.ensures.module c.args.steps c.args.s.now c.args.memory.now c.in_ok-choose-in-SelectTyped.field-0 c.choose-in-SelectTyped.new.numbers c.choose-in-SelectTyped.new.s c.args.memory.now c.in_ok-choose-in-SelectTyped.ensures
+
+pub returns-in_ok-divide-in-Num : goal.returns-in_ok-divide-in-Num
+returns-in_ok-divide-in-Num c = once_at c.args.image.now c.module-m.result.now c.module-m.ensures.module c.args.steps c.args.s.now c.args.memory.now c.in_ok-divide-in-Num.field-0 c.divide.new.numbers c.divide.new.s c.args.memory.now c.in_ok-divide-in-Num.ensures
+
+pub call_entry-requires : goal.call_entry-requires
+call_entry-requires c = record {
+  linked = c.requires.linked;
+  order = c.requires.order;
+  fit = c.requires.fit;
+  steps = c.requires.steps;
+  sound = c.requires.sound;
+  first = sym c.given.ensures ∙ none_given c.given.result.now c.is_empty.result c.is_empty.ensures c.if-not-is_empty.false;
+  place = c.in-Some-instruction.ensures.room;
+  next = subst (λ m. IsNext m c.args.s.now (CallIndirect c.in-CallIndirect.ty c.in-CallIndirect.table)) c.module-m.ensures.module (next_by c.module-m.result.now c.args.s.now c.in-Some.f c.in-Some-instruction.i.now _ (sym c.in-Some.is ∙ c.function.ensures) c.in-Some-instruction.ensures.there c.in-CallIndirect.is);
+}
+
+pub returns-in_ok-call_entry-in-CallIndirect : goal.returns-in_ok-call_entry-in-CallIndirect
+returns-in_ok-call_entry-in-CallIndirect c = c.in_ok-call_entry-in-CallIndirect.ensures

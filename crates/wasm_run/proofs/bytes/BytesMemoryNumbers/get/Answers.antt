@@ -1,4 +1,4 @@
-use Rattle.std.proofs.Common.{ap, length, ◌+◌, arith}
+use Rattle.std.proofs.Common.{length, ◌+◌, arith}
 use Rattle.wasm_run.proofs.PageLemmas.{cell-read, page_within, within-pages}
 use Rattle.wasm_run.proofs.bytes.BytesMemoryNumbers.get.Goals as goal
 

@@ -1,4 +1,4 @@
-use Rattle.std.proofs.Common.{◌≡◌, ◌⊎◌, ◌∙◌, ap, sym, subst, true, replicate}
+use Rattle.std.proofs.Common.{◌≡◌, ◌⊎◌, ◌∙◌, sym, subst, true, replicate}
 use Rattle.wasm_reduction.specs.Combinators.{written}
 use Rattle.wasm_run.specs.Pages.{Page}
 use Rattle.wasm_run.proofs.ZeroLemmas.{fill-fresh, page-without, none_of}

@@ -1,5 +1,3 @@
-use Rattle.std.proofs.Common.{◌∙◌, ap}
-use Rattle.wasm_run.specs.Pages.{page_of}
 use Rattle.wasm_run.proofs.ZeroLemmas.{zeros-length}
 use Rattle.wasm_run.proofs.page.Page.new.Goals as goal
 
