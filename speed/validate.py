@@ -136,6 +136,13 @@ def unreached(n, lowest=b""):
     return one(types, opens + (b"\x00" + lowest + pushes(n) + b"\x41\x00" + table) * (n // 2) + b"\x0b\x00" * n)
 
 
+def lists(count, width):
+    """So many function types that take so many values of random types, and no function."""
+    rng = random.Random(1)
+    types = [function_type([rng.choice([I32, I64, 0x70, 0x6F]) for _ in range(width)], []) for _ in range(count)]
+    return module(types, [], [], memory=False)
+
+
 MODULES = [
     ("16 MB of code", lambda: code(16_000_000)),
     ("100,000 nested blocks", lambda: nested(100_000)),
@@ -148,6 +155,8 @@ MODULES = [
     ("500 br_tables that aren't reached", lambda: unreached(1_000)),
     ("1,000 br_tables that aren't reached", lambda: unreached(2_000)),
     ("1,000 br_tables above a select", lambda: unreached(2_000, b"\x1b")),
+    ("4,000 lists of 4,000 random types", lambda: lists(4_000, 4_000)),
+    ("16,000 lists of 1,000 random types", lambda: lists(16_000, 1_000)),
 ]
 
 
