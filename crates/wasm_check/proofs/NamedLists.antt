@@ -1,11 +1,11 @@
 -- Laws of the names of lists, as they are collected one function type after another.
-use Rattle.std.proofs.Common.{◌≡◌, ℕ, zero, suc, ◌+◌, List, [], ◌∷◌, ◌++◌, length, map, reverse, take, refl, sym, ap, ◌∙◌, subst}
+use Rattle.std.proofs.Common.{◌≡◌, ℕ, zero, suc, ◌+◌, ◌-◌, List, [], ◌∷◌, ◌++◌, length, map, reverse, take, drop, refl, sym, ap, ◌∙◌, subst, arith, take-append-drop, take_all, length-drop}
 use Rattle.std.specs.Prelude.{Option, Some, None, IfSome, slice_get}
 use Rattle.std.proofs.lemmas.List.{length-append, get_or-map}
 use Rattle.std.proofs.lemmas.Option.{slice_get_within, get_or_from_slice_get}
 use Rattle.wasm_ast.specs.declared.types.ValType.{ValType}
 use Rattle.wasm_ast.specs.declared.types.FuncType.{FuncType}
-use Rattle.type_words.specs.Words.{word, Keeps}
+use Rattle.type_words.specs.Words.{word, EndsWith, Keeps}
 use Rattle.wasm_check.specs.declared.lists.Listed.{Listed}
 use Rattle.wasm_check.specs.declared.lists.Listed.TheVariants.{Takes, Gives}
 use Rattle.wasm_check.specs.Lists.{listed, AreNames, AreAmong}
@@ -17,14 +17,17 @@ each-push P [] x holds here (suc j) y at = absurd cc
 each-push P (z ∷ zs) x holds here zero y at = holds zero y at
 each-push P (z ∷ zs) x holds here (suc j) y at = each-push (λ i. P (suc i)) zs x (λ i. holds (suc i)) here j y at
 
--- the names so far, of the first x function types, and which of the long lists they are
-pub record Naming (types : List FuncType) (x : ℕ) (takes gives : List Listed) (all : List (List ValType)) (taken given : List (Option ℕ)) : Type 0 where
+-- the names so far, of the first x function types
+pub record Naming (types : List FuncType) (x : ℕ) (takes gives : List Listed) : Type 0 where
   pub takes_long : length takes ≡ x
   pub gives_long : length gives ≡ x
-  pub taken_long : length taken ≡ x
-  pub given_long : length given ≡ x
   pub of_takes : AreNames types (λ x. Takes x) takes
   pub of_gives : AreNames types (λ x. Gives x) gives
+
+-- which of the words the lists of the first x function types are
+pub record Placing (types : List FuncType) (x : ℕ) (all : List (List ValType)) (taken given : List (Option ℕ)) : Type 0 where
+  pub taken_long : length taken ≡ x
+  pub given_long : length given ≡ x
   pub of_taken : AreAmong types all (λ x. Takes x) taken
   pub of_given : AreAmong types all (λ x. Gives x) given
 
@@ -47,20 +50,23 @@ among-keep types all new name items keeps among = λ x k at. keeps k (listed typ
 one-more : {X : Type 0} (xs : List X) (x : X) (n : ℕ) → length xs ≡ n → length (xs ++ x ∷ []) ≡ n + 1
 one-more xs x n long = length-append xs (x ∷ []) ∙ ap (λ k. k + 1) long
 
-pub naming-more : (types : List FuncType) (x : ℕ) (takes gives : List Listed) (all then new : List (List ValType)) (taken given : List (Option ℕ)) (t g : Listed) (u v : Option ℕ)
-    (takes' gives' : List Listed) (taken' given' : List (Option ℕ)) → takes' ≡ takes ++ t ∷ [] → gives' ≡ gives ++ g ∷ [] → taken' ≡ taken ++ u ∷ [] → given' ≡ given ++ v ∷ [] →
-    listed types t ≡ listed types (Takes x) → listed types g ≡ listed types (Gives x) → Keeps all then → Keeps then new →
-    IfSome u (λ k. slice_get then k ≡ Some (listed types (Takes x))) → IfSome v (λ k. slice_get new k ≡ Some (listed types (Gives x))) →
-    Naming types x takes gives all taken given → Naming types (x + 1) takes' gives' new taken' given'
-naming-more types x takes gives all then new taken given t g u v takes' gives' taken' given' et eg eu ev st sg keeps again su sv n = rw (et, eg, eu, ev) (record {
+pub naming-more : (types : List FuncType) (x : ℕ) (takes gives : List Listed) (t g : Listed) (takes' gives' : List Listed) → takes' ≡ takes ++ t ∷ [] → gives' ≡ gives ++ g ∷ [] →
+    listed types t ≡ listed types (Takes x) → listed types g ≡ listed types (Gives x) → Naming types x takes gives → Naming types (x + 1) takes' gives'
+naming-more types x takes gives t g takes' gives' et eg st sg n = rw (et, eg) (record {
   takes_long = one-more takes t x n.takes_long;
   gives_long = one-more gives g x n.gives_long;
-  taken_long = one-more taken u x n.taken_long;
-  given_long = one-more given v x n.given_long;
   of_takes = names-push types (λ x. Takes x) takes t x n.takes_long n.of_takes st;
   of_gives = names-push types (λ x. Gives x) gives g x n.gives_long n.of_gives sg;
-  of_taken = among-keep types then new (λ x. Takes x) (taken ++ u ∷ []) again (among-push types then (λ x. Takes x) taken u x n.taken_long (among-keep types all then (λ x. Takes x) taken keeps n.of_taken) su);
-  of_given = among-push types new (λ x. Gives x) given v x n.given_long (among-keep types all new (λ x. Gives x) given (λ k ts at. again k ts (keeps k ts at)) n.of_given) sv;
+})
+
+pub placing-more : (types : List FuncType) (x : ℕ) (all then new : List (List ValType)) (taken given : List (Option ℕ)) (u v : Option ℕ) (taken' given' : List (Option ℕ)) → taken' ≡ taken ++ u ∷ [] → given' ≡ given ++ v ∷ [] →
+    Keeps all then → Keeps then new → IfSome u (λ k. slice_get then k ≡ Some (listed types (Takes x))) → IfSome v (λ k. slice_get new k ≡ Some (listed types (Gives x))) →
+    Placing types x all taken given → Placing types (x + 1) new taken' given'
+placing-more types x all then new taken given u v taken' given' eu ev keeps again su sv p = rw (eu, ev) (record {
+  taken_long = one-more taken u x p.taken_long;
+  given_long = one-more given v x p.given_long;
+  of_taken = among-keep types then new (λ x. Takes x) (taken ++ u ∷ []) again (among-push types then (λ x. Takes x) taken u x p.taken_long (among-keep types all then (λ x. Takes x) taken keeps p.of_taken) su);
+  of_given = among-push types new (λ x. Gives x) given v x p.given_long (among-keep types all new (λ x. Gives x) given (λ k ts at. again k ts (keeps k ts at)) p.of_given) sv;
 })
 
 -- a list among those that are read backward
@@ -72,3 +78,10 @@ backward-word all back k types is at =
 pub alike-backward : (all back : List (List ValType)) (k l n : ℕ) (ts us : List ValType) → back ≡ map (λ types. reverse types) all → slice_get all k ≡ Some ts → slice_get all l ≡ Some us → take n (word back k) ≡ take n (word back l) → take n (reverse ts) ≡ take n (reverse us)
 alike-backward all back k l n ts us is at there same =
     ap (λ (x : List ValType). take n x) (sym (backward-word all back k ts is at)) ∙ same ∙ ap (λ (x : List ValType). take n x) (backward-word all back l us is there)
+
+-- a list that is the end of another, cut at a place
+pub part-ends : (ts us : List ValType) (k : ℕ) → take (length ts - k) (drop k ts) ≡ us → EndsWith ts us
+part-ends ts us k same = (
+  take k ts,
+  sym (take-append-drop k ts) ∙ ap (λ end. take k ts ++ end) (sym (take_all (length ts - k) (drop k ts) (omega (arith, length-drop k ts))) ∙ same),
+)

@@ -13,7 +13,7 @@ use crate::open::{OpenSeq, ends, opens, opens_if, turns};
 use crate::plain::acts;
 use crate::scope::Scope;
 use crate::stack::Stack;
-use crate::walk::{Place, Walker, Written, instr_at};
+use crate::walk::{Written, instr_at, walk};
 use std::alloc::{AllocError, Global};
 use wasm_ast::{BlockType, Expr, Instr, List};
 
@@ -146,18 +146,6 @@ fn start(alloc: Global, scope: &Scope) -> Result<Vec<OpenSeq>, AllocError>
         stack,
     })?;
     Ok(seqs)
-}
-
-fn walk(alloc: Global) -> Result<Walker, AllocError>
-    ensures { IfOk result (λ w. reverse w.open.items ≡ record { seq = 0; at = 0; other = None } ∷ []) }
-{
-    let mut places = Vec::new(alloc);
-    places.push(Place {
-        seq: 0,
-        at: 0,
-        other: None,
-    })?;
-    Ok(Walker { open: places })
 }
 
 // The place of the first instruction that isn't typed.

@@ -8,10 +8,12 @@ ghost use Rattle.wasm_check.specs.Faults.{BodyFailsAt};
 ghost use Rattle.wasm_check.specs.Spaces.{AreSpacesOf, AreDeclared, FailsIn};
 
 use crate::body::body_fault;
+use crate::ends::Ends;
 use crate::lists::Lists;
 use crate::locals::Locals;
 use crate::scope::Scope;
 use crate::spaces::Spaces;
+use crate::uses::uses_of;
 use std::alloc::{AllocError, Global};
 use wasm_ast::{Func, Module};
 
@@ -21,19 +23,19 @@ pub fn func_fault<'a>(
     m: &'a Module,
     spaces: &'a Spaces,
     declared: &'a [bool],
-    lists: &'a Lists<'a>,
+    ends: &'a Ends<'a>,
     f: &'a Func,
 ) -> Result<Option<u64>, AllocError>
     requires spaces { AreSpacesOf m.now spaces.now }
     requires declared { AreDeclared m.now (length (funcs_of m.now)) declared.now }
-    requires lists { lists.now ≡ m.now.types }
+    requires ends { ends.now ≡ m.now.types }
     requires shape { FuncHasShape f.now }
     requires typed { IsType m.now f.now.ty }
     ensures { IfOk result (λ r. MatchOption r (BodyIsValid m.now f.now) (BodyFailsAt m.now f.now)) }
 {
     let locals = Locals::new(alloc, f.locals.as_slice())?;
     let ty = m.types.get(f.ty as usize);
-    let scope = Scope::new(m, spaces, declared, lists, f.ty, ty, &locals);
+    let scope = Scope::new(m, spaces, declared, ends, f.ty, ty, &locals);
     Ok(body_fault(alloc, &scope, &f.body)?)
 }
 
@@ -52,9 +54,11 @@ pub fn first_body<'a>(
     ensures { IfOk result (λ r. MatchOption r (SectionIsValid m.now Code) (λ at. FailsIn m.now at.0 at.1)) }
 {
     let lists = Lists::new(alloc, m.types.as_slice())?;
+    let uses = uses_of(alloc, m, spaces, &lists)?;
+    let ends = Ends::new(alloc, &lists, &uses)?;
     for k in 0..m.funcs.len() {
         let f = m.funcs.get(k);
-        if let Some(place) = func_fault(alloc, m, spaces, declared, &lists, f)? {
+        if let Some(place) = func_fault(alloc, m, spaces, declared, &ends, f)? {
             return Ok(Some((k as u32, place)));
         }
     }

@@ -113,7 +113,8 @@ fn each(
     Ok(true)
 }
 
-/// `br_table`. It costs its labels, and the runs of operands once. What labels carry is compared by its number, or has few types.
+/// `br_table`. It costs its labels, and the runs of operands once. What labels carry is compared by its number, or has few types,
+/// or is used seldom.
 pub fn choose(
     alloc: Global,
     scope: &Scope,

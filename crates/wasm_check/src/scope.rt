@@ -7,7 +7,8 @@ ghost use Rattle.wasm_check.specs.Contexts.{func_type, block_type};
 ghost use Rattle.wasm_check.specs.Checker.{has_memory as has_memory_in};
 ghost use Rattle.wasm_check.specs.Kept.{context, kept_of};
 
-use crate::lists::{Listed, Lists};
+use crate::ends::Ends;
+use crate::lists::Listed;
 use crate::locals::Locals;
 use crate::spaces::Spaces;
 use std::marker::Model;
@@ -19,7 +20,7 @@ pub struct Scope<'a> {
     m: &'a Module,
     spaces: &'a Spaces,
     declared: &'a [bool],
-    lists: &'a Lists<'a>,
+    ends: &'a Ends<'a>,
     ty: u32,
     own: &'a FuncType,
     locals: &'a Locals<'a>,
@@ -33,7 +34,7 @@ impl<'a> Model for Scope<'a> {
 
     ghost view = { λ s. kept_of s.m.now s.spaces.now s.declared.now s.own.now s.locals.now };
 
-    ghost invariant = { λ s. (s.lists.now ≡ s.m.now.types) × (slice_get s.m.now.types s.ty ≡ Some s.own.now) };
+    ghost invariant = { λ s. (s.ends.now ≡ s.m.now.types) × (slice_get s.m.now.types s.ty ≡ Some s.own.now) };
 }
 
 impl<'a> Scope<'a> {
@@ -42,12 +43,12 @@ impl<'a> Scope<'a> {
         m: &'a Module,
         spaces: &'a Spaces,
         declared: &'a [bool],
-        lists: &'a Lists<'a>,
+        ends: &'a Ends<'a>,
         ty: u32,
         own: &'a FuncType,
         locals: &'a Locals<'a>,
     ) -> Scope<'a>
-        requires lists { lists.now ≡ m.now.types }
+        requires ends { ends.now ≡ m.now.types }
         requires own { slice_get m.now.types ty ≡ Some own.now }
         ensures { result ≡ kept_of m.now spaces.now declared.now own.now locals.now }
     {
@@ -55,7 +56,7 @@ impl<'a> Scope<'a> {
             m,
             spaces,
             declared,
-            lists,
+            ends,
             ty,
             own,
             locals,
@@ -66,21 +67,21 @@ impl<'a> Scope<'a> {
     pub fn list(&self, list: Listed) -> &'a [ValType]
         ensures { result.now ≡ listed self.now.types list }
     {
-        self.lists.get(list)
+        self.ends.get(list)
     }
 
     /// Whether the first `count` types of a list end with the first `n` types of another, as far as that is known.
     pub fn ends_with(&self, longer: Listed, count: usize, shorter: Listed, n: usize) -> bool
         ensures { result ≡ true → EndsWith (take count (listed self.now.types longer)) (take n (listed self.now.types shorter)) }
     {
-        self.lists.ends_with(longer, count, shorter, n)
+        self.ends.ends_with(longer, count, shorter, n)
     }
 
     /// Whether the last `n` types of two lists are the same, as far as that is known.
     pub fn ends_alike(&self, one: Listed, other: Listed, n: usize) -> bool
         ensures { result ≡ true → take n (reverse (listed self.now.types one)) ≡ take n (reverse (listed self.now.types other)) }
     {
-        self.lists.ends_alike(one, other, n)
+        self.ends.ends_alike(one, other, n)
     }
 
     /// What the function type of this number takes and gives.
@@ -89,7 +90,7 @@ impl<'a> Scope<'a> {
     {
         match self.m.types.as_slice().get(x as usize) {
             None => None,
-            Some(_) => Some((self.lists.takes(x), self.lists.gives(x))),
+            Some(_) => Some((self.ends.takes(x), self.ends.gives(x))),
         }
     }
 
@@ -176,6 +177,6 @@ impl<'a> Scope<'a> {
     pub fn results(&self) -> Listed
         ensures { listed self.now.types result ≡ self.now.results }
     {
-        self.lists.gives(self.ty)
+        self.ends.gives(self.ty)
     }
 }

@@ -319,7 +319,8 @@ impl Stack {
     /// Takes operands that match the types of the list, the last first.
     ///
     /// It costs the runs that it takes, where these are single operands or end with what is left to be taken, or where that
-    /// ends with them. Elsewhere it costs the operands.
+    /// ends with them; of lists that aren't both long and used often, the types that are compared too. Elsewhere it costs the
+    /// operands.
     pub fn take_list(&mut self, scope: &Scope, list: Listed) -> bool
         ensures { Answers result (popped (operands (listed scope.now.types list)) (known scope.now.types self.old)) (known scope.now.types self.new) }
     {

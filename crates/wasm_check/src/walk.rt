@@ -3,7 +3,7 @@ ghost use Rattle.std.specs.Prelude.{◌≡◌, ◌<◌, ◌+◌, ◌^◌, List a
 ghost use Rattle.wasm_check.specs.Trees.{Token, seq_of};
 ghost use Rattle.wasm_check.specs.Walk.{Left, NextIs, opened_by};
 
-use std::alloc::AllocError;
+use std::alloc::{AllocError, Global};
 use wasm_ast::{Instr, List};
 
 /// A place in an open sequence, and the second part of an if that comes after it.
@@ -87,4 +87,17 @@ impl Walker {
         self.enter(other, None)?;
         Ok(Written::Other)
     }
+}
+
+/// At the beginning of a body.
+pub fn walk(alloc: Global) -> Result<Walker, AllocError>
+    ensures { IfOk result (λ w. reverse w.open.items ≡ record { seq = 0; at = 0; other = None } ∷ []) }
+{
+    let mut places = Vec::new(alloc);
+    places.push(Place {
+        seq: 0,
+        at: 0,
+        other: None,
+    })?;
+    Ok(Walker { open: places })
 }

@@ -1,6 +1,5 @@
-use Rattle.std.proofs.Common.{◌≡◌, map, reverse}
 use Rattle.wasm_check.proofs.NamedLists.{Naming}
 use Rattle.wasm_check.proofs.lists.Lists.new.Given as goal
 
 abbrev pub invariant-loop-x : goal.invariant-loop-x
-invariant-loop-x l = Naming l.types l.x l.takes.items l.gives.items l.endings l.taken.items l.given.items × (l.backward ≡ map (λ types. reverse types) l.endings)
+invariant-loop-x l = Naming l.types l.x l.takes.items l.gives.items
