@@ -1,12 +1,12 @@
 -- The blocks over the numbers that wires spell.
-use Rattle.std.proofs.Common.{◌≡◌, ℕ, ◌+◌, ◌-◌, ◌*◌, ◌/◌, ◌%◌, ◌^◌, ◌<◌, Bool, true, false, ◌==◌, nat_lt, cond, List, [], ◌∷◌, length, ⊎_elim, refl, sym, ap, ap₂, ◌∙◌, subst, arith, eq-eqb, ne_eqb}
+use Rattle.std.proofs.Common.{◌≡◌, ℕ, ◌+◌, ◌-◌, ◌*◌, ◌%◌, ◌^◌, ◌<◌, Bool, ◌==◌, nat_lt, cond, [], ◌∷◌, length, ⊎_elim, refl, sym, ap, ap₂, ◌∙◌, subst, eq-eqb, ne_eqb}
 use Rattle.std.proofs.Math.Nat.{mod-zero}
 use Rattle.std.proofs.lemmas.Bool.{cases_eq}
 use Rattle.int_ops.specs.Operators.{unary, total}
 use Rattle.wasm_rules.specs.Words.{chosen}
 use Rattle.refute_check.specs.Clauses.{Assignment}
-use Rattle.bit_blast.specs.Gates.{Wires, false_wire, Circuit}
-use Rattle.bit_blast.specs.Blocks.{add, less, none, negate_if, count, divide, multiply, choose}
+use Rattle.bit_blast.specs.Gates.{Wires}
+use Rattle.bit_blast.specs.Blocks.{add, negate_if, count, divide, multiply, choose}
 use Rattle.bit_blast.specs.Operators.{unary_operator, binary_operator}
 use Rattle.bit_blast.specs.Meanings.{holds, bit, number_of}
 use Rattle.bit_blast.specs.BlockLaws.{true_among, AddLaw, LessLaw, NoneLaw, NegateLaw, CountLaw, DivideLaw, MultiplyLaw, ChooseLaw, UnaryLaw, BinaryLaw}

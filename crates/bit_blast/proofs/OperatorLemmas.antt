@@ -29,7 +29,7 @@ use Rattle.bit_blast.specs.Operators.{sign_turned, count_to, unary_wires, equal,
 use Rattle.bit_blast.specs.Meanings.{holds, bit, differ}
 use Rattle.bit_blast.proofs.BitNumbers.{number}
 use Rattle.bit_blast.proofs.NumberLemmas.{number_below, number_take}
-use Rattle.bit_blast.proofs.SumLemmas.{sums, sum_is, difference_is, length_not}
+use Rattle.bit_blast.proofs.SumLemmas.{sums, sum_is, difference_is}
 use Rattle.bit_blast.proofs.SumLemmas as bits
 use Rattle.bit_blast.proofs.CountLemmas.{ones_among, count_is, ones_are, trailing_are, leading_are, number_down, number_reversed}
 use Rattle.bit_blast.proofs.SignLemmas.{not_above, not_above_signed}

@@ -1,6 +1,6 @@
 -- A term's value hangs on the drawn symbols alone.
-use Rattle.std.proofs.Common.{◌≡◌, ℕ, zero, suc, ◌%◌, ◌^◌, ◌<◌, Bool, List, [], ◌∷◌, slice_get, slice_index, refl, sym, ap, ◌∙◌, ap₂, Some}
-use Rattle.std.proofs.Math.Nat.{mod-mod, zero-mod}
+use Rattle.std.proofs.Common.{◌≡◌, ℕ, zero, suc, ◌%◌, ◌^◌, Bool, List, [], ◌∷◌, slice_get, refl, ap, ◌∙◌, ap₂, Some}
+use Rattle.std.proofs.Math.Nat.{mod-mod}
 use Rattle.std.proofs.lemmas.Nat.{pow_pos, mod_below}
 use Rattle.int_ops.specs.Operators.{unary, total}
 use Rattle.int_ops.specs.Bytes.{byte_of, joined}

@@ -1,5 +1,5 @@
 -- What the blocks compute, over whole numbers.
-use Rattle.std.specs.Prelude.{◌≡◌, ℕ, suc, ◌+◌, ◌-◌, ◌*◌, ◌/◌, ◌%◌, ◌^◌, ◌<◌, Bool, true, ◌==◌, nat_lt, if◌then◌else◌, IsTrue, List, [], ◌∷◌, length}
+use Rattle.std.specs.Prelude.{◌≡◌, ℕ, ◌+◌, ◌-◌, ◌*◌, ◌/◌, ◌%◌, ◌^◌, ◌<◌, true, ◌==◌, nat_lt, if◌then◌else◌, IsTrue, [], ◌∷◌, length}
 use Rattle.int_ops.specs.Operators.{is_unary, is_binary, operand_bits, unary, total}
 use Rattle.wasm_rules.specs.Words.{chosen}
 use Rattle.refute_check.specs.Clauses.{Assignment}

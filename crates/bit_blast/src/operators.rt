@@ -1,7 +1,7 @@
 // The wires of the results of the integer operators, by their opcodes.
-ghost use Rattle.std.specs.Prelude.{◌≡◌, ◌≤◌, IfOk, map};
-ghost use Rattle.int_ops.specs.Operators.{bits_of, operand_bits as operand_bits_of};
-ghost use Rattle.bit_blast.specs.Gates.{negation as negation_of, true_wire, false_wire};
+ghost use Rattle.std.specs.Prelude.{◌≡◌, IfOk, map};
+ghost use Rattle.int_ops.specs.Operators.{operand_bits as operand_bits_of};
+ghost use Rattle.bit_blast.specs.Gates.{negation as negation_of, true_wire};
 ghost use Rattle.bit_blast.specs.Blocks.{Builds, less as less_of};
 ghost use Rattle.bit_blast.specs.Operators.{answer as answer_of, count_to as count_to_of, unary_wires, equal as equal_of, compared, compared_not, plus as plus_of, quotient as quotient_of, remainder as remainder_of, magnitude as magnitude_of, divide_magnitudes as divide_magnitudes_of, signed_quotient as signed_quotient_of, signed_remainder as signed_remainder_of, either as either_of, binary_wires, unary_operator as unary_operator_of, binary_operator as binary_operator_of, sign_turned as turned_of};
 

@@ -1,7 +1,7 @@
 // The terms of conditions in order: each once, after its operands.
-ghost use Rattle.std.specs.Prelude.{◌≡◌, ◌<◌, ◌+◌, ◌∷◌, All, [], length, slice_get, Some, IfOk, IfSome, OnOk};
+ghost use Rattle.std.specs.Prelude.{◌≡◌, ◌<◌, All, [], length, slice_get, Some, IfOk, IfSome, OnOk};
 ghost use Rattle.bv_terms.specs.declared.words.Word.TheVariants.{Term as Numbered};
-ghost use Rattle.bv_terms.specs.Graphs.{Holds, IsGraph};
+ghost use Rattle.bv_terms.specs.Graphs.{Holds};
 ghost use Rattle.bit_blast.specs.declared.tasks.Task.TheVariants.{Visit};
 ghost use Rattle.bit_blast.specs.Formulas.{with_terms, terms_in_order as terms_in_order_of};
 ghost use Rattle.bit_blast.specs.Walks.{place_of, with_number, AreDistinct, term_at, terms_at, HoldsTask, CarriesOut, conditions_of, first_of};

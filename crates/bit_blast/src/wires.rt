@@ -1,5 +1,5 @@
 // Wires that no gate is needed for. The wires of an integer are listed from the lowest bit on.
-ghost use Rattle.std.specs.Prelude.{◌≡◌, ◌++◌, ◌≤◌, ◌<◌, ◌+◌, ◌^◌, map, replicate, reverse, length, IfOk, ◌%◌, ◌==◌, if◌then◌else◌};
+ghost use Rattle.std.specs.Prelude.{◌≡◌, ◌++◌, ◌≤◌, ◌<◌, ◌+◌, ◌^◌, map, replicate, reverse, IfOk, ◌%◌, ◌==◌, if◌then◌else◌};
 ghost use Rattle.bit_blast.specs.Gates.{true_wire, false_wire, negation as negation_of, number_wires as wires_of_number};
 ghost use Rattle.bit_blast.specs.Blocks.{highest as highest_of, moved as moved_by};
 ghost use Rattle.bit_blast.specs.Operators.{fitted as fitted_to, sign_extended as sign_extended_to, sign_turned as turned};

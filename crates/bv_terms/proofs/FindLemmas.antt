@@ -1,5 +1,5 @@
 -- Finding a form.
-use Rattle.std.proofs.Common.{Bool, true, false, cond, ◌≡◌, ℕ, zero, suc, ◌+◌, ◌<◌, ◌≤◌, List, [], ◌∷◌, ◌++◌, length, map, refl, ap, sym, ◌∙◌, subst, arith, Option, Some, None, ⊎_elim, inl, inr, ◌≢◌, map-id}
+use Rattle.std.proofs.Common.{Bool, true, false, cond, ◌≡◌, ℕ, ◌+◌, ◌<◌, ◌≤◌, List, [], ◌∷◌, ◌++◌, length, refl, ap, sym, ◌∙◌, subst, arith, Option, Some, None, ⊎_elim, inl, inr, ◌≢◌, map-id}
 use Rattle.std.specs.Prelude.{slice_get, nat_eq, ◌⊎◌, Result, Ok, Err, is_err, OnOk}
 use Rattle.std.specs.List.{AllZip}
 use Rattle.std.specs.Map.{lookup}

@@ -1,22 +1,22 @@
 -- Where the making rules fit and where they don't, for the words of a graph.
-use Rattle.std.proofs.Common.{◌≡◌, ℕ, zero, suc, ◌+◌, ◌-◌, ◌<◌, ◌≤◌, Bool, true, false, cond, ◌==◌, List, [], ◌∷◌, ◌++◌, length, map, take, All, refl, ap, sym, ◌∙◌, subst, arith, Option, Some, None, ⊎_elim, inl, inr, ap₂, add-one}
-use Rattle.std.specs.Prelude.{◌&&◌, ◌⊎◌, not, IsTrue, slice_get, slice_index_or, slice_set, unwrap_or, option_map}
+use Rattle.std.proofs.Common.{◌≡◌, ℕ, zero, suc, ◌+◌, ◌-◌, ◌<◌, ◌≤◌, Bool, true, false, List, [], ◌∷◌, ◌++◌, length, map, take, All, refl, ap, sym, ◌∙◌, subst, arith, Some, None, ⊎_elim, ap₂, add-one}
+use Rattle.std.specs.Prelude.{◌⊎◌, not, IsTrue, slice_get, slice_set, unwrap_or, option_map}
 use Rattle.std.proofs.lemmas.Bool.{false≢true, cases_eq}
 use Rattle.std.proofs.lemmas.List.Elements.{All-nil, All-head, All-tail, All-cons, All-weaker}
 use Rattle.std.proofs.lemmas.List.{take_more, map-append, take_all}
 use Rattle.std.proofs.Math.Seq.{take-suc-set}
 use Rattle.int_ops.specs.Bytes.{joined}
-use Rattle.wasm_rules.specs.Words.{bits_where, CanJoin}
+use Rattle.wasm_rules.specs.Words.{CanJoin}
 use Rattle.bv_terms.specs.declared.words.Word.{Word}
 use Rattle.bv_terms.specs.declared.words.Word.TheVariants.{Num, Term as Numbered}
 use Rattle.bv_terms.specs.declared.words.Form.{Form}
 use Rattle.bv_terms.specs.declared.words.Form.TheVariants.{Symbol as SymbolForm, Un, Bin, Choose as ChooseForm, Byte as ByteForm, Join as JoinForm}
-use Rattle.bv_terms.specs.Terms.{Term, Number, Symbol, Unary, Binary, Choose, Byte, Join, Bytes, NoBytes, Then, bytes_from, count_of, is_number, number_of, width_of, HasWidth, AreBytes, is_same, are_same}
-use Rattle.bv_terms.specs.Making.{of_numbers, numbers_of, chosen_side, byte_of_join, byte_at, join_of_bytes, whole, bytes_of_term, bytes_where}
-use Rattle.bv_terms.specs.Graphs.{word_among, form_among, terms_after, terms_of, IsBelow, OperandsBelow, IsGraph}
-use Rattle.bv_terms.proofs.SameLemmas.{are_same-are, are_same-themselves, same_number}
-use Rattle.bv_terms.proofs.ListLemmas.{get-below, get-is, get-at, get-some}
-use Rattle.bv_terms.proofs.GraphLemmas.{held, numbered-is, number_apart, length-terms_of, word-unique, below-more}
+use Rattle.bv_terms.specs.Terms.{Term, Number, Unary, Binary, Choose, Byte, Join, Bytes, Then, bytes_from, count_of, is_number, number_of, width_of, HasWidth, AreBytes, are_same}
+use Rattle.bv_terms.specs.Making.{of_numbers, numbers_of, chosen_side, byte_of_join, byte_at, join_of_bytes, whole, bytes_of_term}
+use Rattle.bv_terms.specs.Graphs.{word_among, form_among, terms_of, IsBelow, IsGraph}
+use Rattle.bv_terms.proofs.SameLemmas.{are_same-are, are_same-themselves}
+use Rattle.bv_terms.proofs.ListLemmas.{get-below, get-is}
+use Rattle.bv_terms.proofs.GraphLemmas.{held, numbered-is, word-unique, below-more}
 
 -- a term of a graph is no number
 no_number : (t : Term) → is_number t ≡ false → number_of t ≡ None

@@ -1,6 +1,6 @@
 -- The terms of a graph.
-use Rattle.std.proofs.Common.{◌≡◌, ℕ, zero, suc, ◌+◌, ◌-◌, ◌^◌, ◌<◌, ◌≤◌, Bool, true, false, cond, List, [], ◌∷◌, ◌++◌, length, map, All, refl, ap, sym, ◌∙◌, subst, arith, Option, Some, None, ⊎_elim, inl, inr, add-suc}
-use Rattle.std.specs.Prelude.{◌⊎◌, ◌||◌, not, IsTrue, slice_get, slice_index_or}
+use Rattle.std.proofs.Common.{◌≡◌, ℕ, zero, suc, ◌+◌, ◌-◌, ◌^◌, ◌<◌, ◌≤◌, Bool, true, false, cond, List, [], ◌∷◌, ◌++◌, length, map, All, refl, ap, sym, ◌∙◌, subst, arith, Some, ⊎_elim}
+use Rattle.std.specs.Prelude.{◌⊎◌, ◌||◌, not, IsTrue, slice_get}
 use Rattle.std.specs.List.{list_any}
 use Rattle.std.proofs.lemmas.Bool.{false≢true}
 use Rattle.std.proofs.lemmas.List.{append_assoc, append-nil, length-append, get_or_append_left}
@@ -9,10 +9,10 @@ use Rattle.bv_terms.specs.declared.words.Word.{Word}
 use Rattle.bv_terms.specs.declared.words.Word.TheVariants.{Num, Term as Numbered}
 use Rattle.bv_terms.specs.declared.words.Form.{Form}
 use Rattle.bv_terms.specs.declared.words.Form.TheVariants.{Symbol as SymbolForm, Un, Bin, Choose as ChooseForm, Byte as ByteForm, Join as JoinForm}
-use Rattle.bv_terms.specs.Terms.{Term, Number, Symbol, Unary, Binary, Choose, Byte, Join, Bytes, NoBytes, Then, bytes_from, is_number, width_of, HasWidth, is_same}
+use Rattle.bv_terms.specs.Terms.{Term, Number, Unary, Byte, Join, bytes_from, is_number, width_of, HasWidth, is_same}
 use Rattle.bv_terms.specs.Graphs.{word_among, form_among, terms_after, terms_of, IsBelow, OperandsBelow, IsGraph, with_term}
 use Rattle.bv_terms.proofs.SameLemmas.{is_same-is, is_same-itself}
-use Rattle.bv_terms.proofs.ListLemmas.{get-below, get-is, get-at, get-some, get-left, get-last, get-push, any-at, any-from, map-same}
+use Rattle.bv_terms.proofs.ListLemmas.{get-below, get-is, get-at, get-some, get-last, get-push, any-at, any-from, map-same}
 
 -- ---- how many terms, and one more
 

@@ -1,10 +1,10 @@
 -- The operations of the kind of terms: their widths.
-use Rattle.std.proofs.Common.{◌≡◌, ℕ, ◌^◌, ◌<◌, Bool, List, [], ◌∷◌, length, map, All, refl, ap, sym, subst, ⊎_elim, inl, inr, arith}
-use Rattle.std.specs.Prelude.{◌⊎◌, IsTrue}
+use Rattle.std.proofs.Common.{◌≡◌, ℕ, Bool, List, [], ◌∷◌, length, map, All, refl, ap, sym, subst, ⊎_elim, inl, inr, arith}
+use Rattle.std.specs.Prelude.{◌⊎◌}
 use Rattle.std.proofs.lemmas.List.Elements.{All-head, All-tail}
-use Rattle.int_ops.specs.Operators.{is_unary, is_binary, operand_bits, result_bits}
+use Rattle.int_ops.specs.Operators.{result_bits}
 use Rattle.wasm_rules.specs.Words.{bits_where, CanJoin, HasSome, Gives}
-use Rattle.bv_terms.specs.Terms.{Term, Number, Symbol, Unary, Binary, Choose, Byte, Join, bytes_from, count_of, value_of, values_of, HasWidth, AreBytes, HasBits}
+use Rattle.bv_terms.specs.Terms.{Term, Symbol, Unary, Binary, Choose, Byte, Join, bytes_from, count_of, value_of, values_of, HasWidth, AreBytes, HasBits}
 use Rattle.bv_terms.specs.Making.{made, terms}
 use Rattle.bv_terms.proofs.WidthLemmas.{value-below}
 use Rattle.bv_terms.proofs.RuleLemmas.{made-keeps}

@@ -1,17 +1,17 @@
 -- What a graph is after a term was made.
-use Rattle.std.proofs.Common.{◌≡◌, ℕ, ◌+◌, ◌-◌, ◌<◌, ◌≤◌, Bool, true, false, cond, List, [], ◌∷◌, ◌++◌, length, map, refl, ap, sym, ◌∙◌, subst, arith, Option, Some, None, ⊎_elim, inl, inr}
-use Rattle.std.specs.Prelude.{◌⊎◌, ◌||◌, slice_get, slice_index_or, unwrap_or, Result, Ok, Err, IfOk, OnErr, All}
+use Rattle.std.proofs.Common.{◌≡◌, ℕ, ◌+◌, ◌-◌, ◌<◌, Bool, true, false, cond, List, [], ◌∷◌, ◌++◌, length, map, refl, ap, sym, ◌∙◌, subst, arith, Some, None}
+use Rattle.std.specs.Prelude.{◌||◌, slice_get, slice_index_or, unwrap_or, Result, Ok, Err, IfOk, OnErr, All}
 use Rattle.std.specs.List.{list_any}
 use Rattle.std.proofs.lemmas.List.Elements.{All-map}
 use Rattle.int_ops.specs.Bytes.{joined}
-use Rattle.std.proofs.lemmas.List.{append_assoc, append-nil, length-append, length-map}
+use Rattle.std.proofs.lemmas.List.{append-nil, length-append, length-map}
 use Rattle.wasm_rules.specs.Words.{Kept, CanJoin, bits_where}
 use Rattle.bv_terms.specs.declared.words.Word.{Word}
-use Rattle.bv_terms.specs.declared.words.Word.TheVariants.{Num, Term as Numbered}
+use Rattle.bv_terms.specs.declared.words.Word.TheVariants.{Term as Numbered}
 use Rattle.bv_terms.specs.declared.words.Form.{Form}
-use Rattle.bv_terms.specs.Terms.{Term, Number, Symbol, Join, bytes_from, is_number, is_same, HasWidth, HasBits, value_of, width_of}
+use Rattle.bv_terms.specs.Terms.{Term, Number, Symbol, Join, bytes_from, is_number, is_same, HasWidth, HasBits, value_of}
 use Rattle.bv_terms.specs.Making.{made, rules, first_of}
-use Rattle.bv_terms.specs.Graphs.{TermGraph, word_among, form_among, terms_of, term_of, form_term, IsBelow, Holds, OperandsBelow, IsGraph, with_term, Extends, Makes, Draws, RuleGives}
+use Rattle.bv_terms.specs.Graphs.{TermGraph, word_among, form_among, terms_of, term_of, form_term, Holds, OperandsBelow, IsGraph, with_term, Extends, Makes, Draws, RuleGives}
 use Rattle.bv_terms.proofs.ListLemmas.{get-below, get-is, get-last}
 use Rattle.bv_terms.proofs.GraphLemmas.{length-terms_of, terms_of-push, numbered-is, word-extends, word-unique, below-more, with_held, with_new}
 use Rattle.bv_terms.proofs.RuleLemmas.{made-keeps}

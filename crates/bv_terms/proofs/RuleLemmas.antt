@@ -1,19 +1,18 @@
 -- Each making rule gives a term of the same width and the same value at every input.
-use Rattle.std.proofs.Common.{◌≡◌, ℕ, zero, suc, ◌+◌, ◌*◌, ◌/◌, ◌%◌, ◌^◌, ◌<◌, Bool, true, false, cond, ◌==◌, List, [], ◌∷◌, length, All, refl, ap, sym, ◌∙◌, subst, arith, Option, Some, None, mod-eq_of_lt, ⊎_elim, mul_comm}
-use Rattle.std.specs.Prelude.{◌&&◌, ◌⊎◌, IsTrue, option_map, unwrap_or}
+use Rattle.std.proofs.Common.{◌≡◌, ℕ, zero, suc, ◌+◌, ◌*◌, ◌/◌, ◌%◌, ◌^◌, ◌<◌, Bool, true, false, cond, ◌==◌, List, [], ◌∷◌, refl, ap, sym, ◌∙◌, subst, arith, Option, Some, None, mod-eq_of_lt, ⊎_elim, mul_comm}
+use Rattle.std.specs.Prelude.{◌&&◌, ◌⊎◌, option_map, unwrap_or}
 use Rattle.std.specs.List.{AllByRecursion}
-use Rattle.std.proofs.lemmas.Bool.{and_parts, false≢true}
-use Rattle.std.proofs.lemmas.Bool.Decides.{nat_tests}
+use Rattle.std.proofs.lemmas.Bool.{and_parts}
 use Rattle.std.proofs.lemmas.Nat.{mod_below}
 use Rattle.std.proofs.Math.Nat.{div-div-eq-div-mul, zero-div}
 use Rattle.std.proofs.Math.Nat.{pow-suc}
-use Rattle.int_ops.specs.Operators.{operand_bits, result_bits, unary, total}
-use Rattle.int_ops.specs.Bytes.{byte_of, joined, bytes_of}
+use Rattle.int_ops.specs.Operators.{result_bits, unary, total}
+use Rattle.int_ops.specs.Bytes.{byte_of, joined}
 use Rattle.int_ops.proofs.WidthLemmas.{unary-below, binary-below}
 use Rattle.int_ops.proofs.BytesLemmas.{joined-bytes_of}
 use Rattle.wasm_rules.specs.Words.{bits_where, chosen, CanJoin}
 use Rattle.wasm_rules.proofs.NumbersLemmas.{joined-fits}
-use Rattle.bv_terms.specs.Terms.{Term, Number, Symbol, Unary, Binary, Choose, Byte, Join, Bytes, NoBytes, Then, count_of, is_number, value_of, values_of, width_of, HasWidth, AreBytes, are_same}
+use Rattle.bv_terms.specs.Terms.{Term, Number, Symbol, Unary, Binary, Choose, Byte, Join, Bytes, NoBytes, Then, value_of, values_of, width_of, HasWidth, AreBytes, are_same}
 use Rattle.bv_terms.specs.Making.{Rule, IsSound, Keeps, of_numbers, numbers_of, chosen_side, byte_of_join, byte_at, join_of_bytes, whole, bytes_of_term, bytes_where, rules, first_of, first_made, made}
 use Rattle.bv_terms.proofs.WidthLemmas.{at_width, either, value-below, values-below, length-values_of}
 use Rattle.bv_terms.proofs.SameLemmas.{are_same-are, same_number}

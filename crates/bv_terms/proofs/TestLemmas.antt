@@ -1,5 +1,5 @@
 -- A chain of additions, for the tests.
-use Rattle.std.proofs.Common.{◌≡◌, refl, sym, subst, Bool, true}
+use Rattle.std.proofs.Common.{◌≡◌, refl, sym, subst, true}
 use Rattle.std.specs.Prelude.{IsTrue}
 use Rattle.int_ops.specs.Operators.{operator_of, is_binary, operand_bits, result_bits}
 use Rattle.wasm_rules.specs.Words.{Kept}

@@ -1,24 +1,18 @@
 -- The value of a term, from those of its operands.
-use Rattle.std.proofs.Common.{◌≡◌, ◌≢◌, ℕ, zero, suc, ◌+◌, ◌-◌, ◌*◌, ◌^◌, ◌<◌, ◌≤◌, Bool, true, false, cond, ◌==◌, List, [], ◌∷◌, ◌++◌, length, map, take, All, refl, ap, ap₂, sym, ◌∙◌, subst, arith, Option, Some, None, ⊎_elim, inl, inr, add-one}
-use Rattle.std.specs.Prelude.{◌⊎◌, IsTrue, slice_get, slice_index, slice_index_or, slice_set, Result, Ok, Err}
+use Rattle.std.proofs.Common.{◌≡◌, ℕ, ◌+◌, ◌-◌, ◌^◌, ◌<◌, ◌≤◌, Bool, List, [], ◌∷◌, ◌++◌, length, map, take, All, refl, ap, ap₂, sym, ◌∙◌, subst, arith, ⊎_elim, add-one}
+use Rattle.std.specs.Prelude.{◌⊎◌, slice_index_or, slice_set, Result, Ok, Err}
 use Rattle.std.proofs.lemmas.List.{take_more, take_all, length-map, length-set, get_or-map, get_or_default}
 use Rattle.std.proofs.lemmas.Bool.{cases_eq}
 use Rattle.std.proofs.lemmas.List.Elements.{All-head, All-tail}
 use Rattle.std.proofs.Math.Seq.{take-suc-set}
-use Rattle.int_ops.specs.Operators.{is_unary, is_binary, operand_bits, result_bits, unary, total}
-use Rattle.int_ops.specs.Bytes.{byte_of, joined}
-use Rattle.wasm_rules.specs.Words.{bits_where, CanJoin, chosen}
+use Rattle.int_ops.specs.Bytes.{joined}
 use Rattle.bv_terms.specs.declared.words.Word.{Word}
 use Rattle.bv_terms.specs.declared.words.Word.TheVariants.{Num, Term as Numbered}
-use Rattle.bv_terms.specs.declared.words.Form.{Form}
-use Rattle.bv_terms.specs.declared.words.Form.TheVariants.{Symbol as SymbolForm, Un, Bin, Choose as ChooseForm, Byte as ByteForm, Join as JoinForm}
-use Rattle.bv_terms.specs.Terms.{Term, Number, Symbol, Unary, Binary, Choose, Byte, Join, bytes_from, value_of, values_of, width_of, HasWidth}
-use Rattle.bv_terms.specs.Graphs.{TermGraph, word_among, form_among, terms_of, term_of, form_term, IsBelow, Holds, OperandsBelow}
-use Rattle.bv_terms.specs.Walks.{IsKnown, known_value, AreValues, Looks, LooksAll, Evaluates, HaveRoom}
+use Rattle.bv_terms.specs.Terms.{Term, Join, bytes_from, value_of, values_of, HasWidth}
+use Rattle.bv_terms.specs.Graphs.{TermGraph, word_among, terms_of, term_of, IsBelow}
+use Rattle.bv_terms.specs.Walks.{IsKnown, known_value, AreValues, Looks, LooksAll, Evaluates}
 use Rattle.bv_terms.proofs.WidthLemmas.{value-below}
-use Rattle.bv_terms.proofs.KindLemmas.{values_of-bytes_from}
-use Rattle.bv_terms.proofs.GraphLemmas.{length-terms_of, below-more, operands-more}
-use Rattle.bv_terms.proofs.FitLemmas.{join-count, join-each}
+use Rattle.bv_terms.proofs.GraphLemmas.{length-terms_of, below-more}
 
 -- ---- a known value is the word's
 

@@ -1,12 +1,12 @@
 -- The walk down a term: the stack has terms whose values are wanted, each an operand of the one before it.
 use Rattle.std.proofs.Common.{◌≡◌, ◌≢◌, ℕ, zero, suc, ◌+◌, ◌-◌, ◌*◌, ◌<◌, ◌≤◌, Bool, true, false, cond, ◌==◌, List, [], ◌∷◌, length, All, refl, ap, sym, ◌∙◌, subst, arith, ⊎_elim, inl, inr}
-use Rattle.std.specs.Prelude.{◌⊎◌, slice_index, slice_index_or, slice_set, nat_eq}
+use Rattle.std.specs.Prelude.{◌⊎◌, slice_index, slice_index_or, slice_set}
 use Rattle.std.proofs.lemmas.List.{length-set, get_or-set_same, get_or-set_other}
 use Rattle.std.proofs.lemmas.List.Elements.{All-set, All-weaker}
 use Rattle.std.proofs.lemmas.Bool.{cases_eq, false≢true}
 use Rattle.std.proofs.lemmas.Bool.Decides.{nat_tests}
 use Rattle.bv_terms.specs.declared.words.Word.TheVariants.{Term as Numbered}
-use Rattle.bv_terms.specs.Terms.{Term, Number, value_of}
+use Rattle.bv_terms.specs.Terms.{Number, value_of}
 use Rattle.bv_terms.specs.Graphs.{TermGraph, terms_of, term_of, Holds}
 use Rattle.bv_terms.specs.Walks.{AreValues}
 use Rattle.bv_terms.proofs.GraphLemmas.{length-terms_of}

@@ -1,11 +1,11 @@
 -- The value of a term of a width is below that power of 2.
-use Rattle.std.proofs.Common.{◌≡◌, ℕ, ◌^◌, ◌<◌, ◌/◌, ◌%◌, ◌+◌, Bool, true, false, cond, ◌==◌, List, [], ◌∷◌, length, All, subst, sym, ap, refl, ◌∙◌, arith, ⊎_elim, inl, inr}
-use Rattle.std.specs.Prelude.{slice_index, IsTrue, ◌⊎◌}
+use Rattle.std.proofs.Common.{◌≡◌, ℕ, ◌^◌, ◌<◌, ◌/◌, Bool, true, false, cond, ◌==◌, List, length, All, subst, sym, refl, arith}
+use Rattle.std.specs.Prelude.{slice_index}
 use Rattle.std.proofs.lemmas.Nat.{mod_below, pow_pos}
 use Rattle.std.proofs.lemmas.List.Elements.{All-nil, All-cons}
 use Rattle.int_ops.specs.Operators.{operand_bits, result_bits}
 use Rattle.int_ops.proofs.WidthLemmas.{unary-below, binary-below}
-use Rattle.wasm_rules.specs.Words.{bits_where, CanJoin, chosen}
+use Rattle.wasm_rules.specs.Words.{bits_where, CanJoin}
 use Rattle.wasm_rules.proofs.NumbersLemmas.{joined-fits}
 use Rattle.bv_terms.specs.Terms.{Term, Number, Symbol, Unary, Binary, Choose, Byte, Join, Bytes, NoBytes, Then, count_of, value_of, values_of, HasWidth, AreBytes}
 

@@ -1,5 +1,5 @@
 // Terms as words of an algebra.
-ghost use Rattle.std.specs.Prelude.{◌≡◌, ℕ, ◌^◌, ◌<◌, List as Items, IfOk, OnErr, IfSome, IsTrue, All, length, map};
+ghost use Rattle.std.specs.Prelude.{◌≡◌, ℕ, ◌<◌, List as Items, IfOk, OnErr, IsTrue, All, length, map};
 ghost use Rattle.int_ops.specs.Operators.{is_unary, is_binary, operand_bits, result_bits, unary, total};
 ghost use Rattle.int_ops.specs.Bytes.{byte_of, joined};
 ghost use Rattle.wasm_rules.specs.Words.{Kept, HasSome, CanJoin, bits_where, chosen};
@@ -10,7 +10,6 @@ ghost use Rattle.bv_terms.specs.Graphs.{Holds, term_of, Makes};
 use crate::graph::Graph;
 use crate::words::{Form, Word};
 use std::alloc::AllocError;
-use wasm_ast::List;
 use wasm_rules::Algebra;
 
 /// The words of a graph are numbers and its terms. Each call makes the term that the making rules give.

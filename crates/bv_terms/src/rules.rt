@@ -2,13 +2,13 @@
 ghost use Rattle.std.specs.Prelude.{◌==◌, ◌&&◌, Some, ◌≡◌, ◌↔◌, ◌+◌, ◌<◌, ◌≤◌, List, All, IsTrue, map, length, slice_get, unwrap_or};
 ghost use Rattle.int_ops.specs.Operators.{is_unary, is_binary, operand_bits, result_bits};
 ghost use Rattle.wasm_rules.specs.Words.{bits_where};
-ghost use Rattle.bv_terms.specs.declared.words.Word.TheVariants.{Num, Term as Numbered};
+ghost use Rattle.bv_terms.specs.declared.words.Word.TheVariants.{Num};
 ghost use Rattle.bv_terms.specs.Terms.{Term, Unary as UnaryOf, Binary as BinaryOf, Choose as ChooseOf, Byte as ByteOf, Join as JoinOf, bytes_from, HasWidth, width_of, are_same};
 ghost use Rattle.bv_terms.specs.Making.{of_numbers as numbers_rule, chosen_side as choice_rule, byte_of_join as byte_rule, join_of_bytes as join_rule, whole as whole_or_none, bytes_of_term, bytes_where, first_of, rules};
 ghost use Rattle.bv_terms.specs.Graphs.{IsBelow, OperandsBelow, word_among, form_among, terms_of, IsGraph, RuleGives};
 
 use crate::forms::Forms;
-use crate::words::{FIRST, Form, TermId, Word};
+use crate::words::{FIRST, Form, Word};
 use int_ops::{byte, join, operator, total, un};
 
 /// The word that the first rule that fits gives.

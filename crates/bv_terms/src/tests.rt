@@ -3,7 +3,7 @@ ghost use Rattle.std.specs.Prelude.{IfOk};
 ghost use Rattle.bv_terms.specs.Terms.{HasWidth};
 ghost use Rattle.bv_terms.specs.Graphs.{Holds, term_of};
 
-use crate::{Form, Graph, Marks, Symbols, Word, value_at};
+use crate::{Graph, Marks, Symbols, Word, value_at};
 use std::alloc::AllocError;
 use std::test::Fail;
 use wasm_rules::{Algebra, Drawer};

@@ -1,11 +1,10 @@
 // The analysis of a conflict.
-ghost use Rattle.std.specs.Prelude.{◌≡◌, ◌+◌, Bool, ℕ, List, Option, Some, None, IsTrue, IfOk, MatchOption, slice_get};
+ghost use Rattle.std.specs.Prelude.{◌≡◌, ◌+◌, ℕ, List, Option, Some, None, IsTrue, IfOk, MatchOption};
 ghost use Rattle.refute_check.specs.Logs.{after_step};
 ghost use Rattle.refute_check.specs.Resolution.{each_once};
-ghost use Rattle.refute_check.specs.Machine.{Entry as OneEntry, Learnt as OneLearnt, stays, by_reason, analysed as analysed_of, count_at as count_of, highest_but as highest_of, has_variable as held_in};
+ghost use Rattle.refute_check.specs.Machine.{Learnt as OneLearnt, stays, by_reason, analysed as analysed_of, count_at as count_of, highest_but as highest_of, has_variable as held_in};
 ghost use Rattle.refute_check.specs.Clauses.{variable_of};
 ghost use Rattle.clause_solver.specs.Analysis.{enough_for};
-ghost use Rattle.clause_solver.specs.declared.analysis.Until.{Until as OneUntil};
 
 use crate::resolution::resolvent;
 use crate::trail::{Entry, Trail};

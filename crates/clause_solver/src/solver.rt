@@ -1,6 +1,5 @@
 // The solver.
-ghost use Rattle.std.specs.Prelude.{◌≡◌, ◌<◌, ◌≤◌, ◌^◌, IfOk};
-ghost use Rattle.refute_check.specs.Machine.{assigned};
+ghost use Rattle.std.specs.Prelude.{◌≡◌, ◌<◌, ◌≤◌, IfOk};
 ghost use Rattle.clause_solver.specs.Answers.{IsFormula, IsAnswer, IsRight, values_of};
 
 #[cfg(test)]

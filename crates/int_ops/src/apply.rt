@@ -1,5 +1,5 @@
 // Operators applied by their opcodes.
-ghost use Rattle.std.specs.Prelude.{◌≡◌, ◌≢◌, ◌<◌, ◌^◌, IsTrue};
+ghost use Rattle.std.specs.Prelude.{◌≡◌, ◌<◌, ◌^◌, IsTrue};
 ghost use Rattle.int_ops.specs.Operators.{is_unary, is_binary, operand_bits, unary, binary, total as total_of, bits_of, partial_value, total_value};
 
 use crate::operators::{Binary, Operation, Operator, Trap, Width};

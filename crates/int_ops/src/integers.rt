@@ -1,5 +1,5 @@
 // Integers of N bits in a machine word, whose bits from N on are 0.
-ghost use Rattle.std.specs.Prelude.{◌≡◌, ◌+◌, ◌%◌, ◌^◌, ◌<◌, ◌≤◌, pos, neg_ℤ, ◌≤ℤ◌, ◌<ℤ◌};
+ghost use Rattle.std.specs.Prelude.{◌≡◌, ◌%◌, ◌^◌, ◌<◌, ◌≤◌};
 ghost use Rattle.int_ops.specs.Integers.{wrap, signed as signed_value, unsigned as unsigned_value, div_s, rem_s, shr_s, rotated_left, clz, ctz};
 
 // The lowest bits of a word.

@@ -1,5 +1,5 @@
 // Laws of the operators, over their definitions.
-ghost use Rattle.std.specs.Prelude.{◌≡◌, ◌≢◌, ℕ, ◌+◌, ◌-◌, ◌*◌, ◌/◌, ◌%◌, ◌^◌, ◌<◌, ◌↔◌, ◌+ℤ◌, ◌*ℤ◌, IsTrue, IfOk, Ok, Err};
+ghost use Rattle.std.specs.Prelude.{◌≡◌, ℕ, ◌+◌, ◌-◌, ◌*◌, ◌/◌, ◌%◌, ◌^◌, ◌<◌, ◌↔◌, ◌+ℤ◌, ◌*ℤ◌, IsTrue, IfOk, Err};
 ghost use Rattle.int_ops.specs.declared.operators.Trap.TheVariants.{DivZero, Overflow};
 ghost use Rattle.int_ops.specs.Integers.{signed, unsigned, div_s, rem_s, rotl, rotr, least, minus_one};
 ghost use Rattle.int_ops.specs.declared.operators.Binary.{Binary as BinaryOperation};

@@ -1,6 +1,5 @@
 // What each operation gives.
-ghost use Rattle.std.specs.Prelude.{◌≡◌, ◌<◌, ◌^◌, IsTrue, true};
-ghost use Rattle.int_ops.specs.Integers.{truth};
+ghost use Rattle.std.specs.Prelude.{◌≡◌, ◌<◌, ◌^◌, IsTrue};
 ghost use Rattle.int_ops.specs.Operators.{bits_of, unary_value, binary_value, divides, by_zero};
 
 use crate::integers::{

@@ -1,5 +1,5 @@
 // The questions.
-ghost use Rattle.std.specs.Prelude.{◌≡◌, ◌≤◌, ℕ, List as Numbers, All, IfOk, Some, None};
+ghost use Rattle.std.specs.Prelude.{◌≤◌, All, IfOk, Some, None};
 ghost use Rattle.bv_terms.specs.declared.words.Word.TheVariants.{Term as Numbered};
 ghost use Rattle.bv_terms.specs.Graphs.{Holds};
 ghost use Rattle.bit_blast.specs.Meanings.{AreProper, CanBeLeast};

@@ -1,5 +1,5 @@
 // What the rows share.
-ghost use Rattle.std.specs.Prelude.{◌+◌, ◌<◌, ◌≤◌, length};
+ghost use Rattle.std.specs.Prelude.{◌+◌, ◌<◌, length};
 
 use std::alloc::{AllocError, Global};
 use std::process::Abort;

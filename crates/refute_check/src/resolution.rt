@@ -1,5 +1,5 @@
 // Resolution on sets of literals, in which a clause is looked up and changed at one place in logarithmic time.
-ghost use Rattle.std.specs.Prelude.{◌≡◌, ◌++◌, ◌&&◌, ℕ, List, Option, Some, None, IfOk, OnOk, MatchBool, slice_get, option_map};
+ghost use Rattle.std.specs.Prelude.{◌≡◌, ◌++◌, ◌&&◌, Option, Some, None, IfOk, OnOk, MatchBool, slice_get, option_map};
 ghost use Rattle.refute_check.specs.Resolution.{has, joined, resolvent};
 ghost use Rattle.refute_check.specs.Logs.{result_of};
 ghost use Rattle.refute_check.specs.Alike.{AreAlike, BothAlike};

@@ -14,9 +14,8 @@ use Rattle.bv_terms.proofs.GraphLemmas.{held}
 use Rattle.bit_blast.specs.Formulas.{HasSymbols, HaveSymbols as HaveSymbolsOf}
 use Rattle.bit_blast.specs.Meanings.{IsProper, AreProper, CanBeLeast}
 use Rattle.bit_blast.specs.Walks.{term_at, conditions_of, first_of}
-use Rattle.term_rows.specs.declared.drawn.Drawn.{Drawn}
 use Rattle.term_rows.specs.declared.questions.Question.{Question}
-use Rattle.term_rows.specs.Desks.{HaveSymbols, AreOver, is_over, IsOver, IsAsked, IsQuestion}
+use Rattle.term_rows.specs.Desks.{HaveSymbols, is_over, IsOver, IsAsked, IsQuestion}
 
 -- ---- flags
 

@@ -1,5 +1,5 @@
 // How the sequences of an expression are numbered.
-ghost use Rattle.std.specs.Prelude.{ℕ, ◌≡◌, ◌↔◌, ◌+◌, ◌<◌, ◌==◌, ◌&&◌, nat_lt, if◌then◌else◌, length, slice_index, IsTrue, IfOk, ◌≤◌};
+ghost use Rattle.std.specs.Prelude.{ℕ, ◌≡◌, ◌↔◌, ◌<◌, ◌==◌, ◌&&◌, nat_lt, if◌then◌else◌, length, slice_index, IsTrue, IfOk, ◌≤◌};
 ghost use Rattle.wasm_ast.specs.Numbering.{IsNumbered, after, named_by, names, times_named};
 
 use crate::instructions::Instr;

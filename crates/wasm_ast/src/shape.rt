@@ -1,5 +1,5 @@
 // Whether a module has its shape.
-ghost use Rattle.std.specs.Prelude.{◌≡◌, ◌↔◌, IsTrue, IfOk, ◌≢◌, ◌<◌, ◌≤◌, ◌^◌, length, sum_by, All};
+ghost use Rattle.std.specs.Prelude.{◌↔◌, IsTrue, IfOk, ◌≢◌, ◌<◌, ◌≤◌, ◌^◌, length, sum_by, All};
 ghost use Rattle.std.specs.List.{AllAdjacentBelow};
 ghost use Rattle.std.specs.List.Sorted.{IsNonDecreasingBy};
 ghost use Rattle.wasm_ast.specs.Shape.{IsShort, IsReference, FuncTypeHasShape, InstrHasShape, SeqHasShape, ExprHasShape, KindHasShape, ImportHasShape, LocalsHaveShape, FuncHasShape, ModeHasShape, ElemHasShape, SegmentHasShape, CustomHasShape, CustomsHaveShape, ListsAreShort, HasShape};

@@ -12,7 +12,7 @@ use Rattle.wasm_check.specs.declared.operands.Operand.{Operand}
 use Rattle.wasm_check.specs.declared.operands.Operand.TheVariants.{Of}
 use Rattle.wasm_check.specs.Operands.{Matches, AllMatch, operands, Takes}
 use Rattle.wasm_check.specs.Instructions.{Labels, IsTyped}
-use Rattle.wasm_check.specs.Checker.{Stack, bind, when, onto, pops, popped, is_empty, acts, Open, labels_of, opened, opens, finished, closes, second, finished_other, ends, turns, reads, run}
+use Rattle.wasm_check.specs.Checker.{Stack, bind, when, onto, pops, popped, is_empty, acts, Open, labels_of, opened, opens, finished, closes, second, finished_other, ends, turns, run}
 use Rattle.wasm_check.proofs.Stacks.{bind-some, when-some, Covers, General, Covered, Fits, Matches-self, Matches-on, popped-sound, popped-complete, pops-sound, pops-complete, Covers-append, General-append}
 use Rattle.wasm_check.proofs.Rules.{Takes-self, Sound, acts-sound, acts-complete}
 
@@ -191,10 +191,6 @@ around-passes C ls c wanted results s v t e h us r =
     let a : (rest : List Operand) × (k.0 ≡ operands results ++ rest) × Covered v rest = Covers-append (operands results) v.dead v.ops k.0 k.1 in
     let p : (ts : List Operand) × Covered s ts × Takes ts wanted a.0 = popped-sound wanted s v a.0 e a.2 in
     (a.0, p.0, p.1, p.2, subst (λ l. IsTyped C ls c l us) a.1 k.2)
-
--- the next instruction of a run
-pub run-some : (C : Context) (t : Token) (ts : List Token) (os end : List Open) → run C (t ∷ ts) os ≡ Some end → (next : List Open) × (reads C t os ≡ Some next) × (run C ts next ≡ Some end)
-run-some C t ts os end e = bind-some _ _ end e
 
 abbrev pub Opened : Context → List Operand → Open → Open → List Open → List Token → List Open → Type 0
 Opened C wanted new o os ts end = (v : Stack) × (popped wanted o.stack ≡ Some v) × (run C ts (new ∷ at_stack o v ∷ os) ≡ Some end)

@@ -15,7 +15,6 @@ use Rattle.wasm_check.specs.declared.operands.Operand.{Operand}
 use Rattle.wasm_check.specs.declared.operands.Operand.TheVariants.{Of}
 use Rattle.wasm_check.specs.Contexts.{Context}
 use Rattle.wasm_check.specs.declared.lists.Listed.{Listed}
-use Rattle.wasm_check.specs.declared.lists.Listed.TheVariants.{Nothing, One, Takes, Gives}
 use Rattle.wasm_check.specs.declared.carried.Seen.{Seen}
 use Rattle.wasm_check.specs.Operands.{operands}
 use Rattle.wasm_check.specs.Instructions.{Labels}
@@ -42,21 +41,6 @@ added x q old new u e = go (x == q) refl
     go : (b : Bool) → (x == q) ≡ b → (x ≡ q) ⊎ (contains nat_cmp old q ≡ true)
     go true is = inl (eqb-true x q is)
     go false is = inr (ap (λ b. cond b true (contains nat_cmp old q)) (sym (at-is x q ∙ is)) ∙ sym (u.0 q) ∙ e)
-
-pub put-nothing : (list : Listed) (seen : Seen) → IsPut list seen seen
-put-nothing list seen q e = inr e
-
-pub put-taken : (x : ℕ) (old : Seen) (takes : BTreeSet ℕ) → Updates nat_cmp old.takes takes x true → IsPut (Takes x) old (record old { takes = takes })
-put-taken x old takes u Nothing e = cc
-put-taken x old takes u (One t) e = cc
-put-taken x old takes u (Takes q) e = elim (added x q old.takes takes u e) [ inl is ↦ inl (ap (λ y. Takes y) is) | inr was ↦ inr was ]
-put-taken x old takes u (Gives q) e = inr e
-
-pub put-given : (x : ℕ) (old : Seen) (gives : BTreeSet ℕ) → Updates nat_cmp old.gives gives x true → IsPut (Gives x) old (record old { gives = gives })
-put-given x old gives u Nothing e = cc
-put-given x old gives u (One t) e = cc
-put-given x old gives u (Takes q) e = inr e
-put-given x old gives u (Gives q) e = elim (added x q old.gives gives u e) [ inl is ↦ inl (ap (λ y. Gives y) is) | inr was ↦ inr was ]
 
 -- ---- one label
 

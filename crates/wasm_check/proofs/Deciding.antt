@@ -2,16 +2,13 @@
 use Rattle.std.proofs.Common.{◌≡◌, ℕ, zero, suc, ◌+◌, ◌-◌, ◌<◌, ◌≤◌, min, List, [], ◌∷◌, ◌++◌, ◌⊎◌, inl, inr, length, map, take, drop, reverse, refl, sym, ap, ◌∙◌, subst, arith}
 use Rattle.std.specs.Prelude.{Bool, true, false, nat_le, Option, Some}
 use Rattle.std.proofs.lemmas.Bool.{leb-true, leb-false}
-use Rattle.std.proofs.lemmas.List.{append-nil, reverse-append, length-reverse, length-map, length-take, take_all, drop_all, drop_at}
+use Rattle.std.proofs.lemmas.List.{append-nil, reverse-append, length-reverse, take_all, drop_all, drop_at}
 use Rattle.wasm_ast.specs.declared.types.ValType.{ValType}
 use Rattle.wasm_ast.specs.declared.types.FuncType.{FuncType}
 use Rattle.wasm_check.specs.declared.operands.Operand.{Operand}
 use Rattle.wasm_check.specs.declared.operands.Operand.TheVariants.{Of, Bottom}
-use Rattle.wasm_check.specs.declared.lists.Listed.{Listed}
 use Rattle.wasm_check.specs.declared.stack.Run.{Run}
-use Rattle.wasm_check.specs.declared.stack.Run.TheVariants.{First}
 use Rattle.wasm_check.specs.Operands.{operands}
-use Rattle.wasm_check.specs.Lists.{listed}
 use Rattle.wasm_check.specs.Runs.{run_of, runs_of, held}
 use Rattle.wasm_check.specs.Checker.{fits, Stack, bind, when, pops, popped}
 use Rattle.wasm_check.specs.Carried.{HangsOn}
@@ -21,9 +18,6 @@ use Rattle.wasm_check.proofs.RunLemmas.{operands-reverse}
 -- operands that decide nothing
 abbrev pub Blank : List Operand → Type 0
 Blank ops = (ops ≡ []) ⊎ (ops ≡ Bottom ∷ [])
-
-of-all : List ValType → List Operand
-of-all ts = map (λ t. Of t) ts
 
 -- below all operands
 none-decides : (xs ys : List ValType) (dead : Bool) (gone : List Operand) → length ys ≡ length xs → pops (map (λ t. Of t) xs) dead [] ≡ Some gone → (other : List Operand) × (pops (map (λ t. Of t) ys) dead [] ≡ Some other)
@@ -86,10 +80,6 @@ drop-on : (i n : ℕ) (ops : List Operand) → drop (i + n) ops ≡ drop n (drop
 drop-on zero n ops = let none : 0 + n ≡ n = omega arith in ap (λ k. drop k ops) none
 drop-on (suc i) n [] = let more : suc i + n ≡ suc (i + n) = omega arith in ap (λ k. drop k []) more ∙ sym (drop_all n [] (omega arith))
 drop-on (suc i) n (o ∷ ops) = let more : suc i + n ≡ suc (i + n) = omega arith in ap (λ k. drop k (o ∷ ops)) more ∙ drop-on i n ops
-
-pub first-size : (types : List FuncType) (list : Listed) (count n : ℕ) (l : List ValType) → l ≡ listed types list → n ≡ min count (length l) → n ≡ length (run_of types (First list count))
-first-size types list count n l is e =
-    e ∙ ap (λ (ts : List ValType). min count (length ts)) is ∙ sym (length-take count (listed types list)) ∙ sym (length-map (take count (listed types list)) (λ t. Of t)) ∙ sym (length-reverse (map (λ t. Of t) (take count (listed types list))))
 
 pub down-run : (types : List FuncType) (dead : Bool) (last run : Run) (old new : List Run) (count n : ℕ) (ops : List Operand) → old ≡ new ++ run ∷ [] → n ≡ length (run_of types last) → drop count ops ≡ (held types dead last (reverse old)).ops →
     drop (count + n) ops ≡ (held types dead run (reverse new)).ops

@@ -1,12 +1,11 @@
 -- An entry is valid where its rule holds of it.
 use Rattle.std.proofs.Common.{◌≡◌, ℕ, ◌+◌, ◌<◌, List, sym, subst, arith, inl, inr}
-use Rattle.std.specs.Prelude.{Bool, true, false, Some, IsTrue, ◌↔◌, slice_get}
+use Rattle.std.specs.Prelude.{Bool, true, Some, IsTrue, ◌↔◌, slice_get}
 use Rattle.std.proofs.lemmas.Bool.{cases_eq}
 use Rattle.std.proofs.lemmas.Option.{slice_get_within}
 use Rattle.wasm_ast.specs.declared.modules.Module.{Module}
 use Rattle.wasm_check.specs.declared.sections.Section.{Section}
 use Rattle.wasm_check.specs.declared.sections.Section.TheVariants.{Imports, Functions, Tables, Memories, Globals, Exports, Start, Elements, Code, Data}
-use Rattle.wasm_check.specs.Faults.{IsFirstOf}
 use Rattle.wasm_check.specs.Modules.{OfEntry, EntryIsValid, SectionIsValid}
 use Rattle.wasm_check.specs.Spaces.{section_size}
 
@@ -19,10 +18,6 @@ of_entry {A} entries k x P b e h = (
   λ t y d. let both : Some x ≡ Some y = cc in subst P (same-entry x y both) (h.0 t),
   λ all. h.1 (all x e),
 )
-
--- the first entry that isn't valid
-pub first_found : (m : Module) (s : Section) (k : ℕ) (b : Bool) → b ≡ false → IsTrue b ↔ EntryIsValid m s k → ((j : ℕ) → j < k → EntryIsValid m s j) → IsFirstOf m s k
-first_found m s k b fails h before = record { invalid = λ v. let passes : b ≡ true = h.1 v in cc; before = before }
 
 -- the entries below k, and the entry k
 pub one_more : (m : Module) (s : Section) (k : ℕ) (b : Bool) → b ≡ true → IsTrue b ↔ EntryIsValid m s k → ((j : ℕ) → j < k → EntryIsValid m s j) → (j : ℕ) → j < k + 1 → EntryIsValid m s j

@@ -1,47 +1,25 @@
 -- The first fault of a module, from the first fault of a section.
-use Rattle.std.proofs.Common.{◌≡◌, ℕ, zero, suc, ◌+◌, ◌^◌, ◌<◌, List, [], ◌∷◌, length, get_or, refl, sym, ap, ◌∙◌, subst, arith}
+use Rattle.std.proofs.Common.{◌≡◌, ℕ, zero, suc, ◌+◌, ◌<◌, List, [], ◌∷◌, get_or, refl, sym, ap, ◌∙◌, subst, arith}
 use Rattle.std.specs.Prelude.{All, Option, Some, None, MatchOption, slice_get, Bool, true, false, nat_lt}
 use Rattle.std.proofs.lemmas.Bool.Decides.{nat_tests}
 use Rattle.std.proofs.lemmas.Option.{MatchOption-at_some, get_or_from_slice_get, slice_get_within}
-use Rattle.wasm_ast.specs.Shape.{HasShape, FuncHasShape}
 use Rattle.wasm_ast.specs.declared.modules.Func.{Func}
 use Rattle.wasm_ast.specs.declared.modules.Module.{Module}
 use Rattle.wasm_check.specs.declared.sections.Section.{Section}
 use Rattle.wasm_check.specs.declared.sections.Section.TheVariants.{Imports, Functions, Tables, Memories, Globals, Exports, Start, Elements, Code, Data}
 use Rattle.wasm_check.specs.declared.why.Why.{Why}
-use Rattle.wasm_check.specs.declared.why.Why.TheVariants.{Code as InCode}
-use Rattle.wasm_check.specs.Contexts.{imported_funcs}
 use Rattle.wasm_check.specs.Faults.{section_id, ValidBelow, BodyFailsAt, FirstFault}
 use Rattle.wasm_check.specs.Modules.{BodyIsValid, EntryIsValid, SectionIsValid, IsValid}
-use Rattle.wasm_check.specs.Spaces.{section_size, IsFieldFault, FailsIn}
+use Rattle.wasm_check.specs.Spaces.{IsFieldFault, FailsIn}
 use Rattle.wasm_check.proofs.ModuleLemmas.{same-section, valid_below-more, all_below, fails-invalid}
 
 all-at : {A : Type 0} (P : A → Type 0) (xs : List A) (k : ℕ) (x : A) → All P xs → slice_get xs k ≡ Some x → P x
 all-at P xs k x all e = subst P (get_or_from_slice_get xs k x x e) (all k x (slice_get_within xs k x e))
 
-pub func-has-shape : (m : Module) (k : ℕ) (f : Func) → HasShape m → slice_get m.funcs k ≡ Some f → FuncHasShape f
-func-has-shape m k f shape e = all-at FuncHasShape m.funcs k f shape.funcs e
-
-pub section-short : (m : Module) (s : Section) → HasShape m → section_size m s < 2 ^ 32
-section-short m Imports h = h.lists.imports
-section-short m Functions h = h.lists.funcs
-section-short m Tables h = h.lists.tables
-section-short m Memories h = h.lists.memories
-section-short m Globals h = h.lists.globals
-section-short m Exports h = h.lists.exports
-section-short m Start h = omega arith
-section-short m Elements h = h.lists.elems
-section-short m Code h = h.lists.funcs
-section-short m Data h = h.lists.segments
-
 -- of an entry
 pub field-first : (m : Module) (s : Section) (why : Why) → (s ≡ Code → ⊥) → IsFieldFault m s why → ValidBelow m (section_id s) → FirstFault m why
 field-first m s why ne fault below =
     subst (FirstFault m) (sym fault.1) (s, refl, (λ e. ne (same-section s Code e)), record { first = fault.2; sections_before = below })
-
--- of a body
-pub code-first : (m : Module) (k place function : ℕ) → FailsIn m k place → ValidBelow m 10 → function ≡ length (imported_funcs m) + k → FirstFault m (InCode function place)
-code-first m k place function fails below e = (k, fails.0, e, fails.1, record { first = fails.2; sections_before = below }, fails.3)
 
 -- the first body that isn't valid
 pub fails-in : (m : Module) (k place : ℕ) (f : Func) → slice_get m.funcs k ≡ Some f → BodyFailsAt m f place → ((j : ℕ) → j < k → EntryIsValid m Code j) → FailsIn m k place

@@ -1,6 +1,6 @@
 -- Labels by number.
 use Rattle.std.proofs.Common.{◌≡◌, ℕ, zero, suc, ◌+◌, ◌-◌, ◌<◌, ◌≤◌, List, [], ◌∷◌, length, drop, reverse, get_or, drop-cons, refl, sym, ap, ◌∙◌, arith}
-use Rattle.std.specs.Prelude.{Bool, true, false, Some, None, slice_get}
+use Rattle.std.specs.Prelude.{Some, None, slice_get}
 use Rattle.std.proofs.lemmas.List.{length-reverse, get_or-reverse}
 use Rattle.wasm_ast.specs.declared.types.ValType.{ValType}
 use Rattle.wasm_check.specs.declared.operands.Operand.{Operand}
@@ -8,7 +8,7 @@ use Rattle.wasm_check.specs.Operands.{operands}
 use Rattle.wasm_check.specs.Instructions.{Labels}
 use Rattle.wasm_check.specs.Checker.{Stack, bind, when, pops, popped, same_count, each_fits, Open, labels_of}
 use Rattle.wasm_check.proofs.Stacks.{bind-some}
-use Rattle.wasm_check.proofs.Rules.{same_count-true, count-same}
+use Rattle.wasm_check.proofs.Rules.{count-same}
 
 labels-past : (ys : List Open) (j : ℕ) → length ys ≤ j → slice_get (labels_of ys) j ≡ None
 labels-past [] zero h = refl
@@ -31,20 +31,6 @@ labels-some own outer (suc j) x n h e =
     let place : length outer - suc j ≡ length outer - 1 - j = omega arith in
     labels-get (reverse outer) j x (omega (arith, h, length-reverse outer))
     (e ∙ ap (λ p. get_or outer p x) place ∙ sym (get_or-reverse outer j x (omega (arith, h))))
-
-other-count : (ts us : List ValType) → (length ts ≡ length us → ⊥) → same_count ts us ≡ false
-other-count ts us n = go (same_count ts us) refl
-  where
-    go : (b : Bool) → same_count ts us ≡ b → same_count ts us ≡ false
-    go true e = absurd (n (same_count-true ts us e))
-    go false e = e
-
-pub each-fails : (ls : Labels) (own : List ValType) (labels : List ℕ) (i : ℕ) (these : List ValType) (dead : Bool) (ops : List Operand) → i < length labels → slice_get ls (get_or labels i 0) ≡ Some these → (length these ≡ length own → ⊥) →
-    each_fits ls own (drop i labels) dead ops ≡ None
-each-fails ls own labels i these dead ops h e n =
-    ap (λ l. each_fits ls own l dead ops) (drop-cons labels i 0 h)
-    ∙ ap (λ o. bind o (λ these. when (same_count these own) (bind (pops (operands these) dead ops) (λ gone. each_fits ls own (drop (suc i) labels) dead ops)))) e
-    ∙ ap (λ b. when b (bind (pops (operands these) dead ops) (λ gone. each_fits ls own (drop (suc i) labels) dead ops))) (other-count these own n)
 
 pub each-goes : (ls : Labels) (own : List ValType) (labels : List ℕ) (i : ℕ) (these : List ValType) (s t : Stack) → i < length labels → slice_get ls (get_or labels i 0) ≡ Some these → length these ≡ length own → popped (operands these) s ≡ Some t →
     each_fits ls own (drop i labels) s.dead s.ops ≡ each_fits ls own (drop (i + 1) labels) s.dead s.ops

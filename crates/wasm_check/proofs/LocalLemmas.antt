@@ -1,35 +1,15 @@
 -- Locals by number: the groups in which they stand aren't unrolled.
-use Rattle.std.proofs.Common.{◌≡◌, ℕ, zero, suc, ◌+◌, ◌-◌, ◌<◌, ◌≤◌, List, [], ◌∷◌, ◌++◌, length, take, drop, get_or, refl, sym, ap, ◌∙◌, arith, inl, inr}
+use Rattle.std.proofs.Common.{◌≡◌, ℕ, zero, suc, ◌+◌, ◌-◌, ◌<◌, ◌≤◌, List, [], ◌∷◌, ◌++◌, length, take, refl, sym, ap, ◌∙◌, arith, inl, inr}
 use Rattle.std.specs.Prelude.{Some, None, slice_get, slice_index, sum_by, replicate}
 use Rattle.std.proofs.lemmas.Bool.{cases_eq}
-use Rattle.std.proofs.lemmas.List.{take_all, take_more, take-append-drop, length-append, get_or_append_left}
+use Rattle.std.proofs.lemmas.List.{take_all, length-append, get_or_append_left}
 use Rattle.std.proofs.Math.Seq.{get_or-append_seam}
-use Rattle.std.proofs.lemmas.List.Sums.{sum_by-append, sum_by-cons}
+use Rattle.std.proofs.lemmas.List.Sums.{sum_by-cons}
 use Rattle.std.proofs.lemmas.Option.{slice_get_past}
 use Rattle.wasm_ast.specs.declared.types.ValType.{ValType}
 use Rattle.wasm_ast.specs.declared.modules.Group.{Group}
 use Rattle.wasm_check.specs.Contexts.{locals_of}
 use Rattle.wasm_check.specs.Spaces.{AreEnds, IsGroupOf}
-
--- the locals of the first groups are no more than all
-pub sum-take : (groups : List Group) (k : ℕ) → sum_by (λ g. g.count) (take k groups) ≤ sum_by (λ g. g.count) groups
-sum-take groups k =
-    let parts = sum_by-append (λ (g : Group). g.count) (take k groups) (drop k groups) in
-    let whole = ap (sum_by (λ (g : Group). g.count)) (take-append-drop k groups) in
-    omega (arith, parts, whole)
-
--- one more group
-pub sum-more : (groups : List Group) (k : ℕ) (g : Group) → k < length groups → g ≡ get_or groups k g →
-    sum_by (λ g. g.count) (take (k + 1) groups) ≡ sum_by (λ g. g.count) (take k groups) + g.count
-sum-more groups k g lt e =
-    let last : List Group = get_or groups k g ∷ [] in
-    let parts = sum_by-append (λ (g : Group). g.count) (take k groups) last in
-    let one = sum_by-cons (λ (g : Group). g.count) (get_or groups k g) [] in
-    let same : g.count ≡ (get_or groups k g).count = ap (λ (g : Group). g.count) e in
-    rw (take_more groups k g lt) (omega (arith, parts, one, same))
-
-pub ends-none : (groups : List Group) → AreEnds groups 0 []
-ends-none groups = record { long = refl; each = λ i lt. absurd (omega (arith, lt)) }
 
 pub ends-more : (groups : List Group) (ends : List ℕ) (k end : ℕ) → AreEnds groups k ends → end ≡ sum_by (λ g. g.count) (take (k + 1) groups) → AreEnds groups (k + 1) (ends ++ end ∷ [])
 ends-more groups ends k end are e = record {

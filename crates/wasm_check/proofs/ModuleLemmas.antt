@@ -43,18 +43,6 @@ section_at-id Data = refl
 pub same-section : (r s : Section) → section_id r ≡ section_id s → r ≡ s
 same-section r s e = sym (section_at-id r) ∙ ap section_at e ∙ section_at-id s
 
-pub valid_below-first : (m : Module) → ValidBelow m 2
-valid_below-first m Imports lt = absurd (omega (arith, lt))
-valid_below-first m Functions lt = absurd (omega (arith, lt))
-valid_below-first m Tables lt = absurd (omega (arith, lt))
-valid_below-first m Memories lt = absurd (omega (arith, lt))
-valid_below-first m Globals lt = absurd (omega (arith, lt))
-valid_below-first m Exports lt = absurd (omega (arith, lt))
-valid_below-first m Start lt = absurd (omega (arith, lt))
-valid_below-first m Elements lt = absurd (omega (arith, lt))
-valid_below-first m Code lt = absurd (omega (arith, lt))
-valid_below-first m Data lt = absurd (omega (arith, lt))
-
 pub valid_below-more : (m : Module) (s : Section) → ValidBelow m (section_id s) → SectionIsValid m s → ValidBelow m (section_id s + 1)
 valid_below-more m s below here r lt = elim (cases_eq (section_id r) (section_id s)) [
   | inl same ↦ subst (SectionIsValid m) (sym (same-section r s same)) here

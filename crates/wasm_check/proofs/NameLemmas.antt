@@ -1,5 +1,5 @@
 -- The names of exports: a set that holds those of the first ones.
-use Rattle.std.proofs.Common.{◌≡◌, ℕ, ◌+◌, ◌<◌, ◌≤◌, List, [], length, take, get_or, refl, sym, ap, ◌∙◌, subst, arith, Bor}
+use Rattle.std.proofs.Common.{◌≡◌, ℕ, ◌+◌, ◌<◌, ◌≤◌, List, length, take, get_or, refl, sym, ap, ◌∙◌, subst, arith, Bor}
 use Rattle.std.specs.Prelude.{Bool, true, false, ◌||◌, not, cond, Some, slice_get, Any}
 use Rattle.std.specs.List.{list_any}
 use Rattle.std.specs.Ordering.{nat_cmp}
@@ -52,9 +52,6 @@ new-name m k e le is j other lt at same =
     let found : named m k e.name ≡ true = list_any_at (λ (x : Export). bytes_eq x.name e.name) (take k m.exports) j other within passes in
     let both : true ≡ false = sym found ∙ is in
     cc
-
-pub holds-none : (m : Module) (names : BTreeSet (Bor (List ℕ))) → names.keys ≡ [] → HoldsNames m 0 names
-holds-none m names e q = ap (λ ks. list_any (is_at (λ (y : Bor (List ℕ)). slice_cmp nat_cmp q.now y.now)) ks) e
 
 -- one more name
 pub holds-more : (m : Module) (k : ℕ) (e : Export) (key : Bor (List ℕ)) (old new : BTreeSet (Bor (List ℕ))) → slice_get m.exports k ≡ Some e → key.now ≡ e.name → HoldsNames m k old →

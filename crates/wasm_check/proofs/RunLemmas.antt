@@ -15,9 +15,8 @@ use Rattle.wasm_check.specs.declared.stack.Stack.{Stack as Runs}
 use Rattle.wasm_check.specs.declared.stack.Peek.{Peek}
 use Rattle.wasm_check.specs.declared.open.OpenSeq.{OpenSeq}
 use Rattle.wasm_check.specs.Operands.{operands}
-use Rattle.wasm_check.specs.Operators.{arrow}
 use Rattle.type_words.specs.Words.{EndsWith}
-use Rattle.wasm_check.specs.Lists.{listed, params_at, results_at}
+use Rattle.wasm_check.specs.Lists.{listed}
 use Rattle.wasm_check.specs.Runs.{run_of, runs_of, held, known, peeked, open_of, open_seqs, labels_in}
 use Rattle.wasm_check.specs.Checker.{same_type, fits, Stack, bind, when, onto, pops, popped, with_pop, pop_of, is_empty}
 use Rattle.wasm_check.proofs.Stacks.{same_type-self, same_type-true}
@@ -198,11 +197,6 @@ label-some types own outer (suc j) x n h e =
     labels-some (listed types own) (map (open_of types) outer) (suc j) (open_of types x) n (omega (arith, h, long)) there ∙ label-is types x
 
 -- ---- the lists of a function type
-
-pub lists-of : (types : List FuncType) (x : ℕ) (t : FuncType) (r : List ValType × List ValType) → slice_get types x ≡ Some t → r.0 ≡ params_at (slice_get types x) → r.1 ≡ results_at (slice_get types x) →
-    slice_get types x ≡ Some (arrow r.0 r.1)
-lists-of types x t r e p q =
-    e ∙ ap (λ l. Some (arrow l t.results)) (sym (p ∙ ap params_at e)) ∙ ap (λ l. Some (arrow r.0 l)) (sym (q ∙ ap results_at e))
 
 -- ---- the same on what the code keeps
 

@@ -1,6 +1,6 @@
 -- The checker's loop: how far it has come.
-use Rattle.std.proofs.Common.{◌≡◌, ℕ, ◌+◌, ◌-◌, ◌^◌, ◌<◌, ◌≤◌, List, [], ◌∷◌, length, refl, sym, ap, ◌∙◌, subst, arith}
-use Rattle.std.specs.Prelude.{Bool, true, false, Option, Some, None, ◌↔◌, MatchOption}
+use Rattle.std.proofs.Common.{◌≡◌, ℕ, ◌+◌, ◌-◌, ◌^◌, ◌<◌, List, [], ◌∷◌, length, refl, ap, ◌∙◌, arith}
+use Rattle.std.specs.Prelude.{Bool, true, false, Option, Some, None, MatchOption}
 use Rattle.wasm_ast.specs.declared.instructions.Instr.{Instr}
 use Rattle.wasm_ast.specs.declared.instructions.Expr.{Expr}
 use Rattle.wasm_ast.specs.Shape.{ExprHasShape}
@@ -9,13 +9,11 @@ use Rattle.wasm_check.specs.declared.walk.Place.{Place}
 use Rattle.wasm_check.specs.declared.walk.Written.{Written}
 use Rattle.wasm_check.specs.declared.walk.Written.TheVariants.{Instruction, Other, End, Over}
 use Rattle.wasm_check.specs.Trees.{Tree, Token, Else, Ends, seq_of, Makes, body_tokens}
-use Rattle.wasm_check.specs.Instructions.{IsValidBody}
-use Rattle.wasm_check.specs.Faults.{IsFirstFault}
 use Rattle.wasm_check.specs.Checker.{Open, reads, fault, fault_after, later, start_of, SomeBy}
 use Rattle.wasm_check.specs.Progress.{IsWritten, after, HasCome, IsFoundIn, BodyPasses, BodyStopsAt}
 use Rattle.wasm_check.specs.Walk.{Left, NextIs, token_of}
 use Rattle.wasm_check.proofs.TreeLemmas.{HasTree, tree-of}
-use Rattle.wasm_check.proofs.Faults.{passed-valid, named-first, valid-passed}
+use Rattle.wasm_check.proofs.Faults.{passed-valid, named-first}
 
 after-zero : (o : Option ℕ) → o ≡ after 0 o
 after-zero None = refl
@@ -59,26 +57,6 @@ come-fault C seqs ps qs os next at w h k n r c b short =
     let g : (ts : List Token) × Left seqs ps ts × (length (body_tokens c) ≡ at + length ts) × (fault C (body_tokens c) (start_of C) ≡ after at (fault C ts os)) = h c b in
     let v : Written_next seqs w g.0 qs = next-written seqs w g.0 qs n (k g.0 g.1) in
     g.3 ∙ ap (λ l. after at (fault C l os)) v.2 ∙ ap (λ o. after at (fault_after o (fault C v.1))) (r v.0 v.3) ∙ ap (λ n. Some n) (let e : at + 0 ≡ at = omega arith in e)
-
-pub come-over : (C : Context) (seqs : List (List Instr)) (ps qs : List Place) (os : List Open) (at : ℕ) (w : Written) → HasCome C seqs ps os at → Walks seqs w ps qs → w ≡ Over →
-    (c : Tree) → Makes seqs (seq_of seqs 0) c → length (body_tokens c) < 2 ^ 64 - 1 → fault C (body_tokens c) (start_of C) ≡ None
-come-over C seqs ps qs os at w h k is c b short =
-    let g : (ts : List Token) × Left seqs ps ts × (length (body_tokens c) ≡ at + length ts) × (fault C (body_tokens c) (start_of C) ≡ after at (fault C ts os)) = h c b in
-    let none : g.0 ≡ [] = subst (λ w. NextIs seqs w g.0 qs) is (k g.0 g.1) in
-    g.3 ∙ ap (λ l. after at (fault C l os)) none
-
-pub come-far : (C : Context) (seqs : List (List Instr)) (ps : List Place) (os : List Open) (at : ℕ) → HasCome C seqs ps os at → 2 ^ 64 - 1 ≤ at → (c : Tree) → Makes seqs (seq_of seqs 0) c → length (body_tokens c) < 2 ^ 64 - 1 → fault C (body_tokens c) (start_of C) ≡ None
-come-far C seqs ps os at h far c b short =
-    let g : (ts : List Token) × Left seqs ps ts × (length (body_tokens c) ≡ at + length ts) × (fault C (body_tokens c) (start_of C) ≡ after at (fault C ts os)) = h c b in
-    absurd (omega (arith, g.2, far, short))
-
-pub found-valid : (C : Context) (seqs : List (List Instr)) (r : Option ℕ) → ((c : Tree) → Makes seqs (seq_of seqs 0) c → length (body_tokens c) < 2 ^ 64 - 1 → fault C (body_tokens c) (start_of C) ≡ r) →
-    (c : Tree) → Makes seqs (seq_of seqs 0) c → length (body_tokens c) < 2 ^ 64 - 1 → (r ≡ None) ↔ IsValidBody C c
-found-valid C seqs r h c b short = (λ e. passed-valid C c (h c b short ∙ e), λ v. sym (h c b short) ∙ valid-passed C c v)
-
-pub found-first : (C : Context) (seqs : List (List Instr)) (r : Option ℕ) → ((c : Tree) → Makes seqs (seq_of seqs 0) c → length (body_tokens c) < 2 ^ 64 - 1 → fault C (body_tokens c) (start_of C) ≡ r) →
-    (c : Tree) → Makes seqs (seq_of seqs 0) c → length (body_tokens c) < 2 ^ 64 - 1 → (at : ℕ) → r ≡ Some at → IsFirstFault C (body_tokens c) at
-found-first C seqs r h c b short at e = named-first C c at (h c b short ∙ e)
 
 -- what is found of the body of an expression with shape: it is valid, or its first fault is at this place
 pub found : (C : Context) (e : Expr) (r : Option ℕ) → ExprHasShape e → IsFoundIn C e.seqs r → MatchOption r (BodyPasses C e) (BodyStopsAt C e)

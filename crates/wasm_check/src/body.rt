@@ -1,5 +1,5 @@
 // The checker of a function's body: a stack of open sequences, and a walk through the body.
-ghost use Rattle.std.specs.Prelude.{◌≡◌, ◌∷◌, ◌<◌, ◌-◌, [], IfOk, MatchOption, Option, true, false, None, Some, reverse};
+ghost use Rattle.std.specs.Prelude.{◌≡◌, ◌<◌, ◌-◌, IfOk, MatchOption, Option, true, false, None, Some};
 ghost use Rattle.wasm_ast.specs.Shape.{ExprHasShape};
 ghost use Rattle.wasm_check.specs.Runs.{open_of, open_seqs};
 ghost use Rattle.wasm_check.specs.Checker.{SomeBy, on_open, reads as reads_of, start_of};

@@ -1,5 +1,5 @@
 // Constant expressions (Validation, Instructions: Constant Expressions).
-ghost use Rattle.std.specs.Prelude.{◌≡◌, ◌↔◌, [], ◌∷◌, IsTrue, MatchOption, length, All};
+ghost use Rattle.std.specs.Prelude.{◌≡◌, ◌↔◌, [], ◌∷◌, IsTrue, MatchOption, All};
 ghost use Rattle.wasm_ast.specs.declared.instructions.Instr.{Instr as AnInstr};
 ghost use Rattle.wasm_check.specs.Constants.{Gives, IsConstant};
 

@@ -1,5 +1,5 @@
 // The exports of a module (Validation, Modules: Exports).
-ghost use Rattle.std.specs.Prelude.{◌≡◌, ◌<◌, ◌^◌, IfOk, MatchOption, length};
+ghost use Rattle.std.specs.Prelude.{◌<◌, ◌^◌, IfOk, MatchOption, length};
 ghost use Rattle.wasm_check.specs.declared.sections.Section.TheVariants.{Exports};
 ghost use Rattle.wasm_check.specs.Modules.{SectionIsValid};
 ghost use Rattle.wasm_check.specs.Faults.{IsFirstOf};

@@ -1,5 +1,5 @@
 // The first fault of a module outside its functions' bodies.
-ghost use Rattle.std.specs.Prelude.{◌≡◌, ◌≢◌, ◌↔◌, ◌<◌, ◌≤◌, ◌^◌, IsTrue, IfOk, MatchOption, length};
+ghost use Rattle.std.specs.Prelude.{◌≡◌, ◌≢◌, ◌↔◌, ◌<◌, ◌^◌, IsTrue, IfOk, MatchOption, length};
 ghost use Rattle.wasm_check.specs.declared.sections.Section.TheVariants.{Imports, Functions, Tables, Memories, Globals, Exports, Start, Elements, Code, Data};
 ghost use Rattle.wasm_check.specs.Modules.{EntryIsValid, SectionIsValid};
 ghost use Rattle.wasm_check.specs.Faults.{IsFirstOf};

@@ -1,7 +1,6 @@
 // Lists of value types, by what names them. Equal lists of the function types of a module have one name, so that they are
 // known to be equal without a look at their types.
 ghost use Rattle.std.specs.Prelude.{◌≡◌, ◌∷◌, [], true, IfOk, length};
-ghost use Rattle.wasm_ast.specs.declared.types.FuncType.{FuncType as OneFuncType};
 ghost use Rattle.wasm_check.specs.declared.lists.Listed.TheVariants.{Takes, Gives};
 ghost use Rattle.wasm_check.specs.Lists.{listed, AreNames};
 

@@ -1,12 +1,10 @@
 -- Of exports: the function that one names. Of arguments: their types.
-use Rattle.std.proofs.Common.{◌≡◌, ℕ, ◌+◌, ◌<◌, ◌≤◌, List, [], ◌∷◌, ◌++◌, length, get_or, take, map, refl, sym, ap, ◌∙◌, subst, arith, inl, inr}
+use Rattle.std.proofs.Common.{◌≡◌, ℕ, ◌+◌, ◌<◌, List, [], ◌∷◌, ◌++◌, length, get_or, take, map, refl, sym, ap, ◌∙◌, arith}
 use Rattle.std.specs.Prelude.{Some, slice_get}
-use Rattle.std.proofs.lemmas.Bool.{cases_eq}
 use Rattle.std.proofs.lemmas.List.{take-map, take_more, map_more}
-use Rattle.std.proofs.lemmas.Option.{same_Some, slice_get_read, get_or_from_slice_get}
+use Rattle.std.proofs.lemmas.Option.{slice_get_read}
 use Rattle.wasm_ast.specs.declared.types.ValType.{ValType}
 use Rattle.wasm_ast.specs.declared.runs.Value.{Value}
-use Rattle.wasm_ast.specs.declared.modules.Space.{Space}
 use Rattle.wasm_ast.specs.declared.modules.Space.TheVariants.{Func as FuncSpace}
 use Rattle.wasm_ast.specs.declared.modules.Export.{Export}
 use Rattle.wasm_ast.specs.declared.modules.Module.{Module}
@@ -19,36 +17,11 @@ use Rattle.wasm_image.specs.Kept.{ExportsFunction}
 of_function : List ℕ → ℕ → Export
 of_function name f = record { name = name; space = FuncSpace; index = f }
 
-same-export : (name : List ℕ) (e : Export) → ExportsFunction name e → e ≡ of_function name e.index
-unfolding of_function
-same-export name e is =
-    ap (λ (n : List ℕ). record e { name = n }) is.name ∙ ap (λ (s : Space). record e { name = name; space = s }) is.space
-
 -- ---- the loop over the exports
 
 -- none of the first i exports exports a function by the name
 abbrev pub NoneBelow : Module → List ℕ → ℕ → Type 0
 NoneBelow m name i = (j : ℕ) (e : Export) → j < i → slice_get m.exports j ≡ Some e → ExportsFunction name e → ⊥
-
-pub none-more : (m : Module) (name : List ℕ) (i : ℕ) (x : Export) → i < length m.exports → x ≡ get_or m.exports i x → (ExportsFunction name x → ⊥) → NoneBelow m name i → NoneBelow m name (i + 1)
-none-more m name i x lt here not before j e below at is = elim (cases_eq j i) [
-  | inl same ↦
-      let there : slice_get m.exports i ≡ Some x = slice_get_read m.exports (length m.exports) i x refl lt here in
-      not (subst (ExportsFunction name) (sym (same_Some x e (sym there ∙ ap (slice_get m.exports) (sym same) ∙ at))) is)
-  | inr ne ↦ before j e (omega arith) at is
-]
-
-pub none-exported : (m : Module) (name : List ℕ) (i f : ℕ) → length m.exports ≤ i → NoneBelow m name i → IsExported m name f → ⊥
-unfolding of_function
-none-exported m name i f end none e =
-    none e.0 (of_function name f) (omega (arith, end, e.1)) (slice_get_read m.exports (length m.exports) e.0 (of_function name f) refl e.1 (sym e.2))
-    (record { name = refl; space = refl })
-
-pub exported-here : (m : Module) (name : List ℕ) (i : ℕ) (x : Export) → i < length m.exports → x ≡ get_or m.exports i x → ExportsFunction name x → IsExported m name x.index
-unfolding of_function
-exported-here m name i x lt here is =
-    let there : slice_get m.exports i ≡ Some x = slice_get_read m.exports (length m.exports) i x refl lt here in
-    (i, lt, get_or_from_slice_get m.exports i x (of_function name x.index) there ∙ same-export name x is)
 
 -- in a valid module an export names what is there
 pub exported-there : (m : Module) (name : List ℕ) (f : ℕ) → IsValid m → IsExported m name f → f < function_count m

@@ -1,10 +1,9 @@
 -- Of host functions: what is kept for each imported function.
-use Rattle.std.proofs.Common.{◌≡◌, ℕ, zero, suc, ◌+◌, ◌<◌, ◌≤◌, List, [], ◌∷◌, ◌++◌, length, get_or, take, refl, sym, ap, ◌∙◌, subst, append-nil}
+use Rattle.std.proofs.Common.{◌≡◌, ℕ, zero, suc, ◌+◌, ◌<◌, List, [], ◌∷◌, ◌++◌, length, get_or, take, refl, sym, ap, ◌∙◌, subst, append-nil}
 use Rattle.std.specs.Prelude.{Bool, true, false, cond, Option, Some, None, MatchOption, All, filter, is_some, slice_get}
 use Rattle.std.specs.List.{AllZip}
 use Rattle.std.proofs.lemmas.Bool.{false≢true}
 use Rattle.std.proofs.lemmas.Option.{none-some, same_Some, get_or_from_slice_get, slice_get_within}
-use Rattle.std.proofs.lemmas.List.{take_all}
 use Rattle.std.proofs.lemmas.List.Elements.{All-more, filter_more}
 use Rattle.wasm_ast.specs.declared.modules.Import.{Import}
 use Rattle.wasm_ast.specs.declared.modules.Module.{Module}
@@ -74,9 +73,6 @@ host-same m i x hosts lt here is before =
     ∙ ap (λ (b : Bool). filter is_function (take i m.imports) ++ cond b (get_or m.imports i x ∷ []) []) test
     ∙ append-nil (filter is_function (take i m.imports)) in
     subst (λ (xs : List Import). AllZip (IsHostOf m) xs hosts) (sym kept) before
-
-pub host-all : (m : Module) (i : ℕ) (hosts : List (Option Host)) → length m.imports ≤ i → AreHostsBelow m i hosts → AreHosts m hosts
-host-all m i hosts end h = subst (λ (xs : List Import). AllZip (IsHostOf m) (filter is_function xs) hosts) (take_all i m.imports end) h
 
 -- ---- what is found there
 

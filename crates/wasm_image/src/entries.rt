@@ -1,6 +1,6 @@
 // The function that a run begins with.
 ghost use Rattle.std.specs.Prelude.{◌≡◌, ◌↔◌, ℕ, IsTrue, MatchOption, MatchResult, map};
-ghost use Rattle.wasm_image.specs.Entries.{type_of as type_of_value, IsExported, AreArguments, IsEntry, IsNoEntry};
+ghost use Rattle.wasm_image.specs.Entries.{type_of as type_of_value, IsExported, IsEntry, IsNoEntry};
 ghost use Rattle.wasm_image.specs.Kept.{ExportsFunction};
 
 use crate::images::Image;

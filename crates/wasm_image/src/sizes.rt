@@ -1,5 +1,5 @@
 // Memories and tables that are too large to be run.
-ghost use Rattle.std.specs.Prelude.{◌≡◌, MatchOption, map};
+ghost use Rattle.std.specs.Prelude.{MatchOption, map};
 ghost use Rattle.wasm_image.specs.Sizes.{AreAtMost, IsFirstAbove, FitsSizes, IsTooLarge};
 
 use crate::images::Image;

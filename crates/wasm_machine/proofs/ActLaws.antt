@@ -1,26 +1,23 @@
 -- What the functions of instructions come to, by their shape.
-use Rattle.std.proofs.Common.{◌≡◌, ℕ, zero, suc, ◌+◌, ◌-◌, ◌<◌, ◌≤◌, List, [], ◌∷◌, ◌++◌, map, take, drop, length, refl, sym, ap, ◌∙◌, subst, arith}
-use Rattle.std.specs.Prelude.{Bool, true, false, slice_get, slice_set, Option, Some, None}
+use Rattle.std.proofs.Common.{◌≡◌, ℕ, ◌-◌, ◌≤◌, List, ◌∷◌, drop, length, refl, sym, ap, ◌∙◌, subst}
 use Rattle.wasm_ast.specs.declared.instructions.Instr.{Instr}
 use Rattle.wasm_ast.specs.declared.runs.Cause.{Cause}
 use Rattle.wasm_ast.specs.declared.modules.Module.{Module}
 use Rattle.wasm_rules.specs.Words.{Kind, Kept}
-use Rattle.wasm_reduction.specs.Configurations.{Value, Config, Next, Goes, Draws, Asks, Ends, Traps, Stuck}
-use Rattle.wasm_reduction.specs.Combinators.{holding, with_locals, with_globals}
+use Rattle.wasm_reduction.specs.Configurations.{Value, Next, Goes, Asks, Ends, Traps, Stuck}
+use Rattle.wasm_reduction.specs.Combinators.{holding}
 use Rattle.wasm_reduction.specs.Steps.{act}
 use Rattle.wasm_machine.specs.declared.values.Value.{Value as CodeValue}
 use Rattle.wasm_machine.specs.declared.next.Question.{Question as CodeQuestion}
-use Rattle.wasm_machine.specs.declared.next.End.{End as CodeEnd}
 use Rattle.wasm_machine.specs.declared.next.End.TheVariants.{Traps as CodeTraps, Stuck as CodeStuck}
-use Rattle.wasm_machine.specs.declared.next.Next.{Next as CodeNext}
-use Rattle.wasm_machine.specs.declared.next.Next.TheVariants.{Goes as CodeGoes, Draws as CodeDraws, Asks as CodeAsks, Ends as CodeEnds}
+use Rattle.wasm_machine.specs.declared.next.Next.TheVariants.{Goes as CodeGoes, Asks as CodeAsks, Ends as CodeEnds}
 use Rattle.wasm_machine.specs.States.{State}
-use Rattle.wasm_machine.specs.Moves.{pushed, without, replaced, own, passed, with_local, with_global}
-use Rattle.wasm_machine.specs.Values.{question, end_of, value, ValueHeld, ValuesHeld, EndHeld}
+use Rattle.wasm_machine.specs.Moves.{pushed, without, replaced, own, passed}
+use Rattle.wasm_machine.specs.Values.{question, value, ValueHeld}
 use Rattle.wasm_machine.specs.Configurations.{Lies, config_of, image, configuration}
-use Rattle.wasm_machine.specs.Acts.{Sane, Acts, told, After}
-use Rattle.wasm_machine.proofs.Steps.{config_of-pushed, config_of-without, config_of-replaced, config_of-local, lies-passed}
-use Rattle.wasm_machine.proofs.Images.{own-image, lies-image, image-pushed, image-without, image-replaced, image-local, image-global, image-kept, length-own-image, sane-kept, sane-passed, sane-pushed, sane-without, sane-local, sane-global}
+use Rattle.wasm_machine.specs.Acts.{Sane, Acts}
+use Rattle.wasm_machine.proofs.Steps.{config_of-pushed, config_of-without, config_of-replaced, lies-passed}
+use Rattle.wasm_machine.proofs.Images.{lies-image, image-pushed, image-without, image-replaced, image-kept, length-own-image, sane-kept, sane-passed, sane-pushed, sane-without}
 
 -- what the reduction says of the instruction that is next in the state s
 abbrev pub acting : {A V M : Type 0} → (A → V → M) → Kind M → Module → Instr → A → State (CodeValue V) → List M → Next M
@@ -91,11 +88,6 @@ pub ask-acts : {A V M : Type 0} (H : A → V → Type 0) (means : A → V → M)
 ask-acts H means K m i a a' k s q w h held f = record { gives = f; after = (sane-kept H means a a' k s h, refl, held) }
 
 -- ---- it ends
-
-pub end-acts : {A V M : Type 0} (H : A → V → Type 0) (means : A → V → M) (K : Kind M) (m : Module) (i : Instr) (a a' : A) (s t : State (CodeValue V)) (e : CodeEnd V) → EndHeld (H a') e →
-    ((b : List M) → acting means K m i a s b ≡ Ends (end_of (means a') e)) →
-    Acts H means K m i a s a' t (CodeEnds e)
-end-acts H means K m i a a' s t e h f = record { gives = f; after = h }
 
 pub trap-acts : {A V M : Type 0} (H : A → V → Type 0) (means : A → V → M) (K : Kind M) (m : Module) (i : Instr) (a a' : A) (s t : State (CodeValue V)) (cause : Cause) →
     ((b : List M) → acting means K m i a s b ≡ Ends (Traps cause)) → Acts H means K m i a s a' t (CodeEnds (CodeTraps cause))

@@ -1,16 +1,16 @@
 -- Branches.
-use Rattle.std.proofs.Common.{◌≡◌, ◌≢◌, ℕ, zero, suc, ◌+◌, ◌-◌, ◌^◌, ◌<◌, ◌≤◌, List, [], ◌∷◌, ◌++◌, map, take, drop, length, refl, sym, ap, ◌∙◌, subst, arith}
-use Rattle.std.specs.Prelude.{Bool, true, false, slice_get, slice_index, Option, Some, None, nat_lt}
+use Rattle.std.proofs.Common.{◌≡◌, ◌≢◌, ℕ, zero, suc, ◌+◌, ◌-◌, ◌<◌, ◌≤◌, List, [], ◌∷◌, take, drop, length, refl, sym, ap, ◌∙◌, subst, arith}
+use Rattle.std.specs.Prelude.{false, slice_get, slice_index, Some, None}
 use Rattle.std.proofs.Math.Nat.{eq-or-lt_of_le}
 use Rattle.std.proofs.Common.{inl, inr}
 use Rattle.std.proofs.lemmas.Bool.{le-ltb, lt-ltb}
-use Rattle.std.proofs.lemmas.List.{take-map, drop-map, length-map, length-take-le, take-take, drop_all}
+use Rattle.std.proofs.lemmas.List.{length-take-le, take-take, drop_all}
 use Rattle.wasm_ast.specs.declared.instructions.Instr.{Instr}
 use Rattle.wasm_ast.specs.declared.instructions.Instr.TheVariants.{Br, BrIf, BrTable, Return}
 use Rattle.wasm_ast.specs.declared.modules.Module.{Module}
 use Rattle.wasm_rules.specs.Words.{Kind, Kept}
 use Rattle.wasm_reduction.specs.Configurations.{Value, Label, Config, Test, Next, Goes, Asks, Ends, Stuck}
-use Rattle.wasm_reduction.specs.Combinators.{holding, with_last, testing}
+use Rattle.wasm_reduction.specs.Combinators.{holding}
 use Rattle.wasm_reduction.specs.Control.{give_back, branch, br, choosing}
 use Rattle.wasm_machine.specs.declared.values.Value.{Value as CodeValue}
 use Rattle.wasm_machine.specs.declared.machine.Label.{Label as CodeLabel}
@@ -21,15 +21,15 @@ use Rattle.wasm_machine.specs.declared.next.End.TheVariants.{Stuck as CodeStuck}
 use Rattle.wasm_machine.specs.declared.next.Next.{Next as CodeNext}
 use Rattle.wasm_machine.specs.declared.next.Next.TheVariants.{Goes as CodeGoes, Asks as CodeAsks, Ends as CodeEnds}
 use Rattle.wasm_machine.specs.States.{State}
-use Rattle.wasm_machine.specs.Moves.{own, passed, without, kept, again_place, jumped, from_end, branched}
+use Rattle.wasm_machine.specs.Moves.{own, passed, without, kept, again_place, from_end, branched}
 use Rattle.wasm_machine.specs.Values.{value, word_at, ValueHeld}
 use Rattle.wasm_machine.specs.Configurations.{code_of, label_of, labels_of, waiting, image, config_of, configuration, Lies}
 use Rattle.wasm_machine.specs.Choices.{choice_of}
 use Rattle.wasm_machine.specs.Acts.{Sane, Acts}
-use Rattle.wasm_machine.specs.Says.{Going, Says}
+use Rattle.wasm_machine.specs.Says.{Says}
 use Rattle.wasm_machine.proofs.Lists.{all-append, all-take, all-drop}
 use Rattle.wasm_machine.proofs.Steps.{config_of-jumped, lies-jumped, branch-out, length-own, short-take, target, lies-passed}
-use Rattle.wasm_machine.proofs.Images.{own-image, lies-image, length-own-image, kept-same, sane-passed, sane-without}
+use Rattle.wasm_machine.proofs.Images.{lies-image, length-own-image, kept-same, sane-passed, sane-without}
 use Rattle.wasm_machine.proofs.Operands.{found-word, no-word}
 use Rattle.wasm_machine.proofs.ParametricLaws.{testing-asks, testing-zero, testing-other}
 use Rattle.wasm_machine.proofs.LabelLaws.{targets, target_last, length-waiting, length-labels}

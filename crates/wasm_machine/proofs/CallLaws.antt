@@ -1,14 +1,13 @@
 -- Calls.
-use Rattle.std.proofs.Common.{◌≡◌, ◌≢◌, ℕ, zero, suc, ◌+◌, ◌-◌, ◌^◌, ◌<◌, ◌≤◌, List, [], ◌∷◌, ◌++◌, map, take, drop, length, reverse, refl, sym, ap, ◌∙◌, subst, arith, length-append}
-use Rattle.std.specs.Prelude.{Bool, true, false, IsTrue, slice_get, Option, Some, None, option_map, option_and_then, nat_lt, filter, filter_map, flat_map, replicate, is_some, cond}
+use Rattle.std.proofs.Common.{◌≡◌, ◌≢◌, ℕ, zero, suc, ◌+◌, ◌-◌, ◌<◌, ◌≤◌, List, [], ◌∷◌, ◌++◌, map, take, drop, length, reverse, refl, sym, ap, ◌∙◌, subst, arith, length-append}
+use Rattle.std.specs.Prelude.{Bool, false, slice_get, Option, Some, None, option_map, filter, filter_map, replicate, is_some, cond}
 use Rattle.std.specs.List.{AllByRecursion, cons_option}
-use Rattle.std.proofs.lemmas.Bool.{le-ltb, lt-ltb}
-use Rattle.std.proofs.lemmas.Option.{slice_get_past, slice_get_within, slice_get-map}
+use Rattle.std.proofs.lemmas.Bool.{le-ltb}
+use Rattle.std.proofs.lemmas.Option.{slice_get_past}
 use Rattle.std.proofs.lemmas.List.{take-map, drop-map, length-map, map-append, length-take-le, length-drop}
 use Rattle.wasm_ast.specs.declared.types.ValType.{ValType}
 use Rattle.wasm_ast.specs.declared.types.ValType.TheVariants.{I32 as I32Type, I64 as I64Type, FuncRef as FuncRefType, ExternRef as ExternRefType}
 use Rattle.wasm_ast.specs.declared.types.FuncType.{FuncType}
-use Rattle.wasm_ast.specs.declared.instructions.Instr.{Instr}
 use Rattle.wasm_ast.specs.declared.instructions.Instr.TheVariants.{Call}
 use Rattle.wasm_ast.specs.declared.modules.Group.{Group}
 use Rattle.wasm_ast.specs.declared.modules.Func.{Func}
@@ -18,13 +17,13 @@ use Rattle.wasm_rules.specs.Words.{Kind, Kept}
 use Rattle.wasm_check.specs.Trees.{seq_of}
 use Rattle.wasm_check.specs.Contexts.{func_import}
 use Rattle.wasm_image.specs.declared.hosts.Host.{Host}
-use Rattle.wasm_image.specs.declared.hosts.Host.TheVariants.{SymbolI32, SymbolI64, Assume as AssumeHost, Assert as AssertHost}
+use Rattle.wasm_image.specs.declared.hosts.Host.TheVariants.{Assume as AssumeHost, Assert as AssertHost}
 use Rattle.wasm_image.specs.Functions.{imported_functions}
 use Rattle.wasm_image.specs.Hosts.{IsHostFunction, AreLinked}
 use Rattle.wasm_image.proofs.ImageLaws.{each_host}
-use Rattle.wasm_reduction.specs.Configurations.{Value, I32, I64, Label, Frame, Config, Test, Assume, Next, Goes, Draws, Asks, Ends, Assumes, Fails, Stuck}
-use Rattle.wasm_reduction.specs.Combinators.{holding, with_found, with_word, with_last, testing, assuming}
-use Rattle.wasm_reduction.specs.Functions.{Code, Imported, Function, imported_as, defined_as, functions, type_of, default, first_locals}
+use Rattle.wasm_reduction.specs.Configurations.{Value, I32, I64, Config, Assume, Next, Goes, Draws, Asks}
+use Rattle.wasm_reduction.specs.Combinators.{holding, with_found, with_word, with_last, assuming}
+use Rattle.wasm_reduction.specs.Functions.{Code, Function, imported_as, defined_as, functions, default, first_locals}
 use Rattle.wasm_reduction.specs.Control.{frame_of, calling_host, calling, call}
 use Rattle.wasm_reduction.proofs.ImageFunctions.{runs-host, runs-code}
 use Rattle.wasm_machine.specs.declared.values.Value.{Value as CodeValue}
@@ -187,18 +186,6 @@ code-lacks {M = M} H means K m a s k f ns e = record {
       Goes (record c { frame = frame_of K t f (reverse args); callers = (holding c rest).frame ∷ c.callers })))) e;
   after = tt;
 }
-
-pub code-few : {A V M : Type 0} (H : A → V → Type 0) (means : A → V → M) (K : Kind M) (m : Module) (a a' : A) (s t : State (CodeValue V)) (k : ℕ) (f : Func) (type : FuncType) (ns : List ℕ) → slice_get m.types f.ty ≡ Some type → length (own s) - k < length type.params →
-    Tells H means m a' s t (CodeEnds CodeStuck) (coding means K m a s k f ns)
-code-few {M = M} H means K m a a' s t k f type ns e h =
-    let few : length (drop k (own (image (means a) s))) < length type.params = omega (arith, h, length-own-image (means a) s, length-drop k (own (image (means a) s))) in
-    record {
-      gives = λ b. let c : Config M = configuration (means a) m b (passed s) in
-          ap (λ o. with_found o (λ t. with_last (length t.params) (drop k (own (image (means a) s))) (λ args rest.
-          Goes (record c { frame = frame_of K t f (reverse args); callers = (holding c rest).frame ∷ c.callers })))) e ∙
-          rw (lt-ltb (length (drop k (own (image (means a) s)))) (length type.params) few);
-      after = tt;
-    }
 
 image-called : {V M : Type 0} (h : V → M) (g n arity : ℕ) (others : List (CodeValue V)) (s : State (CodeValue V)) → image h (called g n others arity s) ≡ called g n (map (value h) others) arity (image h s)
 image-called h g n arity others s = sym (rw (length-map s.operands (value h), length-map s.locals (value h))

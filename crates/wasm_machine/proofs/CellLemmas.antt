@@ -1,13 +1,13 @@
 -- Lists of cells: their parts, and what is written over them.
-use Rattle.std.proofs.Common.{◌≡◌, ℕ, ◌+◌, ◌≤◌, ◌<◌, List, [], ◌∷◌, ◌++◌, length, take, drop, map, set, get_or, All, Some, slice_get, Bool, ⊎_elim, refl, sym, ap, ap₂, ◌∙◌, arith}
+use Rattle.std.proofs.Common.{◌≡◌, ℕ, ◌+◌, ◌≤◌, ◌<◌, List, [], ◌∷◌, ◌++◌, length, take, drop, map, set, get_or, All, Some, slice_get, refl, sym, ap, ap₂, ◌∙◌, arith}
 use Rattle.std.proofs.lemmas.List.{append-nil, map-append, take-map, drop-map, length-map, length-append, length-drop, length-take-le, take-append-drop, get_or-drop, append_assoc, drop_more, set_at, take_more, take_more_set}
 use Rattle.std.proofs.lemmas.List.Elements.{All-append, All-take, All-drop, All-head, All-tail, All-weaker}
 use Rattle.std.proofs.lemmas.Option.{get_or_from_slice_get}
 use Rattle.wasm_rules.specs.declared.accesses.Access.{Access}
-use Rattle.wasm_rules.specs.Words.{Kept, CanJoin}
+use Rattle.wasm_rules.specs.Words.{Kept}
 use Rattle.wasm_rules.specs.Accesses.{load_of, store_of, load_bytes}
 use Rattle.wasm_rules.proofs.AccessLemmas.{load_row, load_bytes-is, store_row}
-use Rattle.wasm_rules.proofs.StoredLemmas.{count_small}
+use Rattle.wasm_rules.proofs.StoredLemmas.{count_small, count_some}
 use Rattle.wasm_reduction.specs.Combinators.{written, part}
 
 -- ---- parts, and lists written over others
@@ -94,9 +94,6 @@ written_more at i words list d within below =
     (omega (arith, counted, length-take-le (i + 1) words (omega (arith, below))))
 
 -- ---- how many bytes
-
-count_some : (wide : Bool) (count : ℕ) → CanJoin wide count → 0 < count
-count_some wide count h = ⊎_elim (λ e. omega (arith, e)) (⊎_elim (λ e. omega (arith, e)) (⊎_elim (λ e. omega (arith, e)) (λ e. omega (arith, e.0)))) h
 
 module _ (op : ℕ) (access : Access) where
   pub load_small : Some access ≡ load_of op → access.bytes ≤ 8

@@ -1,9 +1,9 @@
 -- Blocks, and the ends of labels and frames.
 use Rattle.std.proofs.Common.{◌≡◌, ℕ, zero, suc, ◌+◌, ◌-◌, ◌^◌, ◌<◌, ◌≤◌, List, [], ◌∷◌, ◌++◌, map, take, drop, length, reverse, refl, sym, ap, ◌∙◌, subst, arith}
-use Rattle.std.specs.Prelude.{Bool, true, false, slice_get, Option, Some, None, option_map, nat_lt}
+use Rattle.std.specs.Prelude.{Bool, true, false, slice_get, Option, Some, None, option_map}
 use Rattle.std.specs.declared.vec.Vec.{Vec}
 use Rattle.std.specs.declared.alloc.Global.{Global}
-use Rattle.std.proofs.lemmas.Bool.{le-ltb, lt-ltb}
+use Rattle.std.proofs.lemmas.Bool.{le-ltb}
 use Rattle.std.proofs.lemmas.List.{take-map, drop-map, length-map, length-take-le, map-append}
 use Rattle.std.proofs.Math.Seq.{take-length}
 use Rattle.wasm_ast.specs.declared.types.BlockType.{BlockType}
@@ -11,13 +11,12 @@ use Rattle.wasm_ast.specs.declared.types.FuncType.{FuncType}
 use Rattle.wasm_ast.specs.declared.instructions.Instr.{Instr}
 use Rattle.wasm_ast.specs.declared.instructions.Instr.TheVariants.{Block, Loop, If}
 use Rattle.wasm_ast.specs.declared.modules.Module.{Module}
-use Rattle.wasm_rules.specs.Words.{Kind, Kept}
+use Rattle.wasm_rules.specs.Words.{Kind}
 use Rattle.wasm_check.specs.Trees.{seq_of}
-use Rattle.wasm_reduction.specs.Configurations.{Value, Config, Test, Next, Goes, Asks, Ends, Returns, Stuck}
+use Rattle.wasm_reduction.specs.Configurations.{Value, Config, Next, Goes, Ends, Returns, Stuck}
 use Rattle.wasm_reduction.specs.Combinators.{holding, with_found, with_last, testing}
 use Rattle.wasm_reduction.specs.Functions.{block_type}
-use Rattle.wasm_reduction.specs.Steps.{act}
-use Rattle.wasm_reduction.specs.Control.{give_back, finish, entering, block, loop}
+use Rattle.wasm_reduction.specs.Control.{give_back, finish, entering, block}
 use Rattle.wasm_machine.specs.declared.values.Value.{Value as CodeValue}
 use Rattle.wasm_machine.specs.declared.machine.Label.{Label as CodeLabel}
 use Rattle.wasm_machine.specs.declared.machine.Frame.{Frame as CodeFrame}
@@ -28,14 +27,14 @@ use Rattle.wasm_machine.specs.declared.next.Next.{Next as CodeNext}
 use Rattle.wasm_machine.specs.declared.next.Next.TheVariants.{Goes as CodeGoes, Draws as CodeDraws, Asks as CodeAsks, Ends as CodeEnds}
 use Rattle.wasm_machine.specs.States.{State}
 use Rattle.wasm_machine.specs.Moves.{own, passed, without, entered, kept, left, returned, from_end}
-use Rattle.wasm_machine.specs.Values.{value, word_at, ValueHeld, ValuesHeld, EndHeld}
+use Rattle.wasm_machine.specs.Values.{value, word_at, ValueHeld, ValuesHeld}
 use Rattle.wasm_machine.specs.Configurations.{seqs_of, code_of, again_of, waiting, frames_of, image, config_of, configuration, Lies}
-use Rattle.wasm_machine.specs.Acts.{Sane, Ready, IsNext, Acts, told, After}
+use Rattle.wasm_machine.specs.Acts.{Sane, Acts, After}
 use Rattle.wasm_machine.specs.Says.{Going, Says, arities_of, carried_by, opening, IsOpening}
 use Rattle.wasm_machine.specs.Selects.{by_answer}
 use Rattle.wasm_machine.proofs.Lists.{all-append, all-take, all-drop, take_more_at, reverse-reverse}
-use Rattle.wasm_machine.proofs.Steps.{config_of-entered, lies-entered, config_of-left, lies-left, config_of-returned, lies-returned, length-own, room-own, last_own, own-without, lies-passed}
-use Rattle.wasm_machine.proofs.Images.{own-image, lies-image, image-without, length-own-image, own-held, kept-same, sane-without}
+use Rattle.wasm_machine.proofs.Steps.{config_of-entered, lies-entered, config_of-left, lies-left, config_of-returned, lies-returned, room-own, last_own, own-without, lies-passed}
+use Rattle.wasm_machine.proofs.Images.{lies-image, image-without, length-own-image, kept-same}
 use Rattle.wasm_machine.proofs.Operands.{found-word, no-word}
 use Rattle.wasm_machine.proofs.ParametricLaws.{testing-asks}
 use Rattle.wasm_machine.proofs.LabelLaws.{length-waiting, length-labels}
@@ -48,10 +47,6 @@ going-after H a s t CodeGoes h = h
 going-after H a s t (CodeDraws wide) h = h
 going-after H a s t (CodeAsks q w) h = absurd h
 going-after H a s t (CodeEnds e) h = h
-
-pub says-acts : {A V M : Type 0} (H : A → V → Type 0) (means : A → V → M) (K : Kind M) (m : Module) (i : Instr) (a : A) (s t : State (CodeValue V)) (x : CodeNext V) (e : List M → Next M) → Says H means m a t x e →
-    ((b : List M) → act K m (configuration (means a) m b (passed s)) (own (image (means a) s)) s.answers i ≡ e b) → Acts H means K m i a s a t x
-says-acts H means K m i a s t x e r f = record { gives = λ b. f b ∙ r.gives b; after = going-after H a s t x r.going }
 
 pub says-stuck : {A V M : Type 0} (H : A → V → Type 0) (means : A → V → M) (m : Module) (a : A) (t : State (CodeValue V)) (e : List M → Next M) → ((b : List M) → e b ≡ Ends Stuck) → Says H means m a t (CodeEnds CodeStuck) e
 says-stuck H means m a t e f = record { gives = f; going = tt }
@@ -76,10 +71,6 @@ pub opening-lacks : {W : Type 0} (m : Module) (c : Config W) (vs : List (Value W
 opening-lacks m c vs ty body false e = ap (λ o. with_found o (λ t. with_last (length t.params) vs (λ params rest. entering c params rest (length t.results) [] (seq_of c.frame.seqs body)))) e
 opening-lacks m c vs ty body true e = ap (λ o. with_found o (λ t. with_last (length t.params) vs (λ params rest. entering c params rest (length t.params) (Loop ty body ∷ []) (seq_of c.frame.seqs body)))) e
 
-pub opening-few : {W : Type 0} (m : Module) (c : Config W) (vs : List (Value W)) (ty : BlockType) (body : ℕ) (again : Bool) (t : FuncType) → block_type m ty ≡ Some t → length vs < length t.params → opening again m c vs ty body ≡ Ends Stuck
-opening-few m c vs ty body false t e h = ap (λ o. with_found o (λ t. with_last (length t.params) vs (λ params rest. entering c params rest (length t.results) [] (seq_of c.frame.seqs body)))) e ∙ rw (lt-ltb (length vs) (length t.params) h)
-opening-few m c vs ty body true t e h = ap (λ o. with_found o (λ t. with_last (length t.params) vs (λ params rest. entering c params rest (length t.params) (Loop ty body ∷ []) (seq_of c.frame.seqs body)))) e ∙ rw (lt-ltb (length vs) (length t.params) h)
-
 -- the type of a block, by its arities
 found-type : (o : Option FuncType) (n : Arities) → Some n ≡ option_map arities_of o → (t : FuncType) × (o ≡ Some t) × (n ≡ arities_of t)
 found-type None n e = cc
@@ -92,13 +83,6 @@ no-type (Some t) e = cc
 pub open-lacks : {A V M : Type 0} (H : A → V → Type 0) (means : A → V → M) (m : Module) (a : A) (s : State (CodeValue V)) (ty : BlockType) (body : ℕ) (again : Bool) → None ≡ option_map arities_of (block_type m ty) →
     Says H means m a s (CodeEnds CodeStuck) (λ b. opening again m (configuration (means a) m b (passed s)) (own (image (means a) s)) ty body)
 open-lacks H means m a s ty body again e = says-stuck H means m a s _ (λ b. opening-lacks m (configuration (means a) m b (passed s)) (own (image (means a) s)) ty body again (no-type (block_type m ty) e))
-
-pub open-few : {A V M : Type 0} (H : A → V → Type 0) (means : A → V → M) (m : Module) (a : A) (s : State (CodeValue V)) (ty : BlockType) (body : ℕ) (again : Bool) (n : Arities) → Some n ≡ option_map arities_of (block_type m ty) → length (own s) < n.params →
-    Says H means m a s (CodeEnds CodeStuck) (λ b. opening again m (configuration (means a) m b (passed s)) (own (image (means a) s)) ty body)
-open-few H means m a s ty body again n e h =
-    let f = found-type (block_type m ty) n e in
-    let few : length (own (image (means a) s)) < length f.0.params = rw (length-own-image (means a) s) (subst (λ n. length (own s) < n.params) f.2 h) in
-    says-stuck H means m a s _ (λ b. opening-few m (configuration (means a) m b (passed s)) (own (image (means a) s)) ty body again f.0 f.1 few)
 
 -- the loop that a branch starts again
 again-is : {X : Type 0} (m : Module) (s : State X) (again : Bool) (ty : BlockType) (body : ℕ) → IsOpening m s again ty body → repeats ty body again ≡ again_of (code_of m s.entry s.frame.func) again (s.frame.here ∷ [])

@@ -1,14 +1,12 @@
 -- The meaning of a state under the machine's moves, and as the algebra grows.
-use Rattle.std.proofs.Common.{◌≡◌, ℕ, zero, suc, ◌+◌, ◌-◌, ◌<◌, ◌≤◌, List, [], ◌∷◌, ◌++◌, map, take, drop, length, reverse, refl, sym, ap, ◌∙◌, subst, arith, length-append}
-use Rattle.std.specs.Prelude.{Bool, true, false, slice_set, slice_get, Option, Some, None, option_map, option_and_then}
+use Rattle.std.proofs.Common.{◌≡◌, ℕ, zero, suc, ◌+◌, ◌-◌, ◌<◌, ◌≤◌, List, [], ◌∷◌, map, take, drop, length, refl, sym, ap, ◌∙◌, subst, arith}
+use Rattle.std.specs.Prelude.{Bool, true, false, slice_set, Some, option_map}
 use Rattle.std.specs.List.{AllByRecursion}
 use Rattle.std.proofs.lemmas.List.{map-append, take-map, drop-map, length-map}
-use Rattle.std.proofs.lemmas.Option.{slice_get-map}
 use Rattle.wasm_rules.specs.Words.{Kept}
-use Rattle.wasm_reduction.specs.Configurations.{Value, I32, I64, Ref, Config}
-use Rattle.wasm_reduction.specs.Combinators.{word_of, reference_of, valued}
+use Rattle.wasm_reduction.specs.Configurations.{I32, I64}
+use Rattle.wasm_reduction.specs.Combinators.{word_of, valued}
 use Rattle.wasm_reduction.specs.Maps.{ValueHas, ValuesHave}
-use Rattle.int_ops.specs.Operators.{bits_of}
 use Rattle.wasm_rules.specs.Words.{bits_where}
 use Rattle.wasm_machine.specs.declared.values.Reference.{Reference as CodeReference}
 use Rattle.wasm_machine.specs.declared.values.Value.{Value as CodeValue}
@@ -17,10 +15,10 @@ use Rattle.wasm_machine.specs.declared.machine.Label.{Label as CodeLabel}
 use Rattle.wasm_machine.specs.declared.machine.Frame.{Frame as CodeFrame}
 use Rattle.wasm_machine.specs.States.{State}
 use Rattle.wasm_machine.specs.Moves.{pushed, without, replaced, own, passed, with_local, with_global}
-use Rattle.wasm_machine.specs.Values.{reference, value, word_of as code_word, reference_of as code_reference, valued as code_valued, word_at, reference_at, ValueHeld, ValuesHeld}
-use Rattle.wasm_machine.specs.Configurations.{FrameLies, FramesLie, Lies, image}
+use Rattle.wasm_machine.specs.Values.{value, word_of as code_word, valued as code_valued, word_at, reference_at, ValueHeld, ValuesHeld}
+use Rattle.wasm_machine.specs.Configurations.{FramesLie, Lies, image}
 use Rattle.wasm_machine.specs.Acts.{Sane}
-use Rattle.wasm_machine.proofs.Lists.{map-reverse, all-append, all-take, all-drop, all-reverse, all-get}
+use Rattle.wasm_machine.proofs.Lists.{map-reverse, all-append, all-take, all-drop, all-reverse}
 use Rattle.wasm_machine.proofs.Steps.{lies-passed, lies-pushed, lies-without, lies-local}
 
 -- ---- states

@@ -1,23 +1,22 @@
 -- Calls of elements of tables.
-use Rattle.std.proofs.Common.{◌≡◌, ◌≢◌, ℕ, zero, suc, ◌+◌, ◌-◌, ◌^◌, ◌<◌, ◌≤◌, List, [], ◌∷◌, ◌++◌, map, take, drop, length, refl, sym, ap, ◌∙◌, subst, arith}
+use Rattle.std.proofs.Common.{◌≡◌, ℕ, ◌-◌, ◌^◌, ◌<◌, ◌≤◌, List, [], ◌∷◌, map, drop, length, refl, sym, ap, ◌∙◌, subst, arith}
 use Rattle.std.specs.Prelude.{Bool, true, false, IsTrue, ◌&&◌, ◌↔◌, slice_get, Option, Some, None, option_map, option_and_then, unwrap_or}
 use Rattle.std.proofs.lemmas.Option.{slice_get_past, slice_get-map}
 use Rattle.std.proofs.lemmas.List.{length-map}
 use Rattle.wasm_ast.specs.declared.types.ValType.{ValType}
 use Rattle.wasm_ast.specs.declared.types.ValType.TheVariants.{I32 as I32Type, I64 as I64Type, FuncRef as FuncRefType, ExternRef as ExternRefType}
 use Rattle.wasm_ast.specs.declared.types.FuncType.{FuncType}
-use Rattle.wasm_ast.specs.declared.instructions.Instr.{Instr}
 use Rattle.wasm_ast.specs.declared.instructions.Instr.TheVariants.{CallIndirect}
 use Rattle.wasm_ast.specs.declared.runs.Cause.TheVariants.{Undefined, Uninitialized, Mismatch}
 use Rattle.wasm_ast.specs.declared.modules.Module.{Module}
 use Rattle.wasm_rules.specs.Words.{Kind, Kept}
 use Rattle.wasm_check.specs.Checker.{same_type}
 use Rattle.wasm_image.specs.Functions.{function_count, function_type}
-use Rattle.wasm_reduction.specs.Configurations.{Reference, FuncRef, Value, Config, Next, Ends, Traps, Stuck}
+use Rattle.wasm_reduction.specs.Configurations.{Reference, FuncRef, Config, Next}
 use Rattle.wasm_reduction.specs.Combinators.{with_found, with_word}
 use Rattle.wasm_reduction.specs.Ranges.{with_element, indexing}
 use Rattle.wasm_reduction.specs.Functions.{Function, functions, type_of, same_types, same_function_type}
-use Rattle.wasm_reduction.specs.Control.{calling, calling_of_type, calling_reference, call}
+use Rattle.wasm_reduction.specs.Control.{calling, calling_of_type, calling_reference}
 use Rattle.wasm_reduction.proofs.ImageFunctions.{function-types, has-type}
 use Rattle.wasm_machine.specs.declared.values.Reference.{Reference as CodeReference}
 use Rattle.wasm_machine.specs.declared.values.Reference.TheVariants.{Func, Extern}
@@ -30,11 +29,11 @@ use Rattle.wasm_machine.specs.declared.next.Next.{Next as CodeNext}
 use Rattle.wasm_machine.specs.declared.next.Next.TheVariants.{Asks as CodeAsks, Ends as CodeEnds}
 use Rattle.wasm_machine.specs.States.{State}
 use Rattle.wasm_machine.specs.Moves.{own, passed}
-use Rattle.wasm_machine.specs.Values.{reference, value, word_at}
+use Rattle.wasm_machine.specs.Values.{reference, word_at}
 use Rattle.wasm_machine.specs.Configurations.{image, configuration}
 use Rattle.wasm_machine.specs.Stores.{list_at, TablesSmall}
 use Rattle.wasm_machine.specs.Reached.{reached}
-use Rattle.wasm_machine.specs.Acts.{Sane, Acts, told, After}
+use Rattle.wasm_machine.specs.Acts.{Sane, Acts}
 use Rattle.wasm_machine.specs.Says.{Tells}
 use Rattle.wasm_machine.proofs.Operands.{found-word, no-word}
 use Rattle.wasm_machine.proofs.ActLaws.{acting, ask-acts, trap-acts, stuck-acts}

@@ -1,8 +1,8 @@
 -- Lists that are cut and turned round.
-use Rattle.std.proofs.Common.{◌≡◌, ℕ, zero, suc, ◌+◌, ◌-◌, ◌<◌, ◌≤◌, List, [], ◌∷◌, ◌++◌, map, take, drop, length, reverse, refl, sym, ap, ◌∙◌, subst, arith, length-append}
-use Rattle.std.specs.Prelude.{slice_get, Option, Some, None, unwrap_or}
+use Rattle.std.proofs.Common.{◌≡◌, ℕ, zero, suc, ◌+◌, ◌-◌, ◌<◌, ◌≤◌, List, [], ◌∷◌, ◌++◌, map, take, drop, length, reverse, refl, sym, ap, ◌∙◌, subst, arith}
+use Rattle.std.specs.Prelude.{slice_get, Some, None, unwrap_or}
 use Rattle.std.specs.List.{AllByRecursion}
-use Rattle.std.proofs.lemmas.List.{drop_at, take_at, length-reverse, length-drop, take-append-drop, reverse-append, take-append-le, drop-append-le, drop-drop, length-take-le, map-append}
+use Rattle.std.proofs.lemmas.List.{drop_at, take_at, length-reverse, length-drop, take-append-drop, reverse-append, drop-append-le, drop-drop, length-take-le, map-append}
 
 pub drop-suc : {A : Type 0} (n : ℕ) (xs : List A) (i : A) (is : List A) → drop n xs ≡ i ∷ is → drop (n + 1) xs ≡ is
 drop-suc n xs i is e = sym (drop-drop 1 n xs) ∙ ap (λ l. drop 1 l) e

@@ -1,8 +1,6 @@
 -- Numeric instructions.
-use Rattle.std.proofs.Common.{◌≡◌, ℕ, zero, suc, ◌+◌, ◌-◌, ◌^◌, ◌<◌, ◌≤◌, List, [], ◌∷◌, map, drop, length, refl, sym, ap, ◌∙◌, subst, arith}
-use Rattle.std.specs.Prelude.{Bool, true, false, IsTrue, Option, Some, None, slice_get}
-use Rattle.std.specs.Option.{option_map_or}
-use Rattle.wasm_ast.specs.declared.instructions.Instr.{Instr}
+use Rattle.std.proofs.Common.{◌≡◌, ℕ, zero, suc, ◌-◌, ◌^◌, ◌<◌, ◌≤◌, List, [], ◌∷◌, drop, length, refl, sym, ap, ◌∙◌, subst, arith}
+use Rattle.std.specs.Prelude.{Bool, true, false, IsTrue, Some, None}
 use Rattle.wasm_ast.specs.declared.instructions.Instr.TheVariants.{Num}
 use Rattle.wasm_ast.specs.declared.runs.Cause.TheVariants.{DivZero as DivZeroCause, Overflow as OverflowCause}
 use Rattle.wasm_ast.specs.declared.modules.Module.{Module}
@@ -13,28 +11,27 @@ use Rattle.int_ops.specs.declared.operators.Binary.{Binary}
 use Rattle.int_ops.specs.declared.operators.Operation.{Operation}
 use Rattle.int_ops.specs.declared.operators.Operation.TheVariants.{OfOne, OfTwo}
 use Rattle.int_ops.specs.declared.operators.Operator.{Operator}
-use Rattle.int_ops.specs.Operators.{operator_of, is_unary, is_binary, operand_bits, result_bits, bits_of, divides, is_div_s, is_of_one, is_of_two}
+use Rattle.int_ops.specs.Operators.{operator_of, is_unary, is_binary, operand_bits, result_bits, bits_of, divides, is_div_s}
 use Rattle.wasm_rules.specs.Words.{Kind, Kept, bits_where}
 use Rattle.wasm_reduction.specs.Configurations.{Value, Config, Test, Next, Goes, Asks, Ends, Traps, Stuck}
-use Rattle.wasm_reduction.specs.Combinators.{holding, valued, with_found, with_word}
+use Rattle.wasm_reduction.specs.Combinators.{holding, valued, with_found}
 use Rattle.wasm_reduction.specs.Numeric.{is_wide, eqz_op, eq_op, is_zero, is_overflow, checking, operating, numeric}
 use Rattle.wasm_machine.specs.declared.values.Value.{Value as CodeValue}
-use Rattle.wasm_machine.specs.declared.next.Next.TheVariants.{Goes as CodeGoes, Asks as CodeAsks, Ends as CodeEnds}
-use Rattle.wasm_machine.specs.declared.next.Question.TheVariants.{Test as CodeTest}
-use Rattle.wasm_machine.specs.declared.next.End.TheVariants.{Stuck as CodeStuck, Traps as CodeTraps}
+use Rattle.wasm_machine.specs.declared.next.Next.TheVariants.{Goes as CodeGoes, Ends as CodeEnds}
+use Rattle.wasm_machine.specs.declared.next.End.TheVariants.{Stuck as CodeStuck}
 use Rattle.wasm_machine.specs.declared.numeric.Check.{Check}
 use Rattle.wasm_machine.specs.declared.numeric.Check.TheVariants.{AskZero, AskOverflow, DivZero, Overflow, Fine}
 use Rattle.wasm_machine.specs.States.{State}
 use Rattle.wasm_machine.specs.Moves.{own, passed, replaced}
-use Rattle.wasm_machine.specs.Values.{value, word_at, valued as code_valued}
+use Rattle.wasm_machine.specs.Values.{word_at, valued as code_valued}
 use Rattle.wasm_machine.specs.Configurations.{image, configuration}
 use Rattle.wasm_machine.specs.Divisions.{check_of}
-use Rattle.wasm_machine.specs.Acts.{Sane, Wide, Ready, Acts}
+use Rattle.wasm_machine.specs.Acts.{Sane, Ready, Acts}
 use Rattle.wasm_machine.proofs.Images.{own-held, word_at-held, word_at-wide, word_at-some, valued-image, valued-held}
 use Rattle.int_ops.specs.Integers.{least, minus_one}
 use Rattle.wasm_machine.proofs.Steps.{length-own}
 use Rattle.wasm_machine.proofs.Operands.{found-word, no-word}
-use Rattle.wasm_machine.proofs.ActLaws.{acting, put-acts, ask-acts, trap-acts, stuck-acts}
+use Rattle.wasm_machine.proofs.ActLaws.{acting, put-acts, stuck-acts}
 
 -- ---- opcodes
 

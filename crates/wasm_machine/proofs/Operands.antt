@@ -1,14 +1,14 @@
 -- The operands that the reduction takes, where the machine looks at them in their places.
-use Rattle.std.proofs.Common.{◌≡◌, ℕ, zero, suc, ◌+◌, ◌<◌, ◌≤◌, List, [], ◌∷◌, map, drop, length, refl, sym, ap, ◌∙◌, subst, arith}
-use Rattle.std.specs.Prelude.{Bool, true, false, slice_get, Option, Some, None, option_map, option_and_then}
-use Rattle.wasm_reduction.specs.Configurations.{Reference, Value, I32, I64, Ref, Next, Ends, Stuck}
-use Rattle.wasm_reduction.specs.Combinators.{word_of, with_found, with_value, with_word, with_reference}
+use Rattle.std.proofs.Common.{◌≡◌, ℕ, zero, suc, ◌+◌, List, [], ◌∷◌, map, drop, refl, sym, ap, ◌∙◌, arith}
+use Rattle.std.specs.Prelude.{Bool, slice_get, Some, None, option_map}
+use Rattle.wasm_reduction.specs.Configurations.{Reference, Value, Next, Ends, Stuck}
+use Rattle.wasm_reduction.specs.Combinators.{with_found, with_value, with_word, with_reference}
 use Rattle.wasm_machine.specs.declared.values.Reference.{Reference as CodeReference}
 use Rattle.wasm_machine.specs.declared.values.Value.{Value as CodeValue}
 use Rattle.wasm_machine.specs.declared.values.Value.TheVariants.{I32 as CodeI32, I64 as CodeI64, Ref as CodeRef}
 use Rattle.wasm_machine.specs.States.{State}
 use Rattle.wasm_machine.specs.Moves.{own}
-use Rattle.wasm_machine.specs.Values.{reference, value, word_of as code_word, reference_of as code_reference, word_at, reference_at}
+use Rattle.wasm_machine.specs.Values.{reference, value, word_at, reference_at}
 use Rattle.wasm_machine.specs.Configurations.{image}
 use Rattle.wasm_machine.proofs.Images.{own-image, word-image}
 

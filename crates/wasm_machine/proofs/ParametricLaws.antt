@@ -1,12 +1,11 @@
 -- Parametric instructions.
-use Rattle.std.proofs.Common.{inl, inr, ◌⊎◌, ◌≡◌, ◌≢◌, ℕ, zero, suc, ◌+◌, ◌<◌, ◌≤◌, List, [], ◌∷◌, map, drop, length, refl, sym, ap, ◌∙◌, subst, arith}
-use Rattle.std.specs.Prelude.{Bool, true, false, Option, Some, None, slice_get, option_and_then}
+use Rattle.std.proofs.Common.{◌≡◌, ◌≢◌, ℕ, zero, suc, ◌≤◌, List, [], ◌∷◌, drop, length, refl, sym, ap, ◌∙◌, subst, arith}
+use Rattle.std.specs.Prelude.{Bool, true, false, Some, None, slice_get, option_and_then}
 use Rattle.std.proofs.lemmas.Option.{slice_get_within}
 use Rattle.wasm_ast.specs.declared.types.ValType.{ValType}
-use Rattle.wasm_ast.specs.declared.instructions.Instr.{Instr}
 use Rattle.wasm_ast.specs.declared.instructions.Instr.TheVariants.{Discard, Select, SelectTyped}
 use Rattle.wasm_ast.specs.declared.modules.Module.{Module}
-use Rattle.wasm_rules.specs.Words.{Kind, Kept, bits_where}
+use Rattle.wasm_rules.specs.Words.{Kind, Kept}
 use Rattle.wasm_reduction.specs.Configurations.{Value, I32, I64, Ref, Config, Test, Next, Goes, Asks, Ends, Stuck}
 use Rattle.wasm_reduction.specs.Combinators.{holding, valued, testing}
 use Rattle.wasm_reduction.specs.Parametric.{selecting}
@@ -22,8 +21,8 @@ use Rattle.wasm_machine.specs.Moves.{own, passed, without, replaced}
 use Rattle.wasm_machine.specs.Values.{reference, value, word_of as code_word, reference_of as code_reference, valued as code_valued, word_at, ValueHeld}
 use Rattle.wasm_machine.specs.Configurations.{image, configuration}
 use Rattle.wasm_machine.specs.Selects.{Three, by_answer}
-use Rattle.wasm_machine.specs.Acts.{Sane, Ready, Acts}
-use Rattle.wasm_machine.proofs.Images.{own-held, kept-same, valued-image, valued-held}
+use Rattle.wasm_machine.specs.Acts.{Sane, Acts}
+use Rattle.wasm_machine.proofs.Images.{kept-same, valued-image, valued-held}
 use Rattle.wasm_machine.proofs.NumericLaws.{own-within}
 use Rattle.wasm_machine.proofs.Operands.{found-word, no-word, found-value, no-value}
 use Rattle.wasm_machine.proofs.ActLaws.{acting, put-acts, drop-acts, ask-acts, stuck-acts}

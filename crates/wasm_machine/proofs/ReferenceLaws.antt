@@ -1,13 +1,12 @@
 -- Reference instructions.
-use Rattle.std.proofs.Common.{◌≡◌, ℕ, zero, suc, ◌+◌, ◌<◌, ◌≤◌, List, [], ◌∷◌, map, drop, length, refl, sym, ap, ◌∙◌, subst, arith}
-use Rattle.std.specs.Prelude.{Bool, true, false, Option, Some, None, option_map}
+use Rattle.std.proofs.Common.{◌≡◌, ℕ, ◌∷◌, refl, ap, arith}
+use Rattle.std.specs.Prelude.{Some, None}
 use Rattle.wasm_ast.specs.declared.types.ValType.{ValType}
-use Rattle.wasm_ast.specs.declared.instructions.Instr.{Instr}
 use Rattle.wasm_ast.specs.declared.instructions.Instr.TheVariants.{RefNull, RefIsNull, RefFunc}
 use Rattle.wasm_ast.specs.declared.modules.Module.{Module}
 use Rattle.int_ops.specs.Integers.{truth}
 use Rattle.wasm_rules.specs.Words.{Kind, Kept}
-use Rattle.wasm_reduction.specs.Configurations.{Reference, FuncRef, Value, I32, Ref, Config, Next, Goes, Ends, Stuck}
+use Rattle.wasm_reduction.specs.Configurations.{FuncRef, I32, Ref, Goes}
 use Rattle.wasm_reduction.specs.Combinators.{holding, with_found}
 use Rattle.wasm_reduction.specs.Tables.{null_of, is_null}
 use Rattle.wasm_machine.specs.declared.values.Reference.{Reference as CodeReference}
@@ -17,7 +16,7 @@ use Rattle.wasm_machine.specs.declared.next.Next.TheVariants.{Goes as CodeGoes, 
 use Rattle.wasm_machine.specs.declared.next.End.TheVariants.{Stuck as CodeStuck}
 use Rattle.wasm_machine.specs.States.{State}
 use Rattle.wasm_machine.specs.Moves.{own, passed, pushed, replaced}
-use Rattle.wasm_machine.specs.Values.{reference, value, reference_at}
+use Rattle.wasm_machine.specs.Values.{reference, reference_at}
 use Rattle.wasm_machine.specs.Configurations.{image, configuration}
 use Rattle.wasm_machine.specs.Acts.{Sane, Acts}
 use Rattle.wasm_machine.proofs.Images.{kept-same, reference_at-some}

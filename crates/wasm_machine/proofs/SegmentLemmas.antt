@@ -1,6 +1,6 @@
 -- Laws of segments, and of the module's store.
-use Rattle.std.proofs.Common.{◌≡◌, ℕ, zero, suc, ◌+◌, ◌-◌, ◌*◌, ◌<◌, ◌≤◌, List, [], ◌∷◌, ◌++◌, take, drop, length, map, refl, sym, ap, ◌∙◌, subst, arith}
-use Rattle.std.specs.Prelude.{Bool, true, false, nat_lt, if◌then◌else◌, slice_index_or, replicate, Option, Some, None, slice_get, slice_set, Result, Ok, Err}
+use Rattle.std.proofs.Common.{◌≡◌, ℕ, zero, suc, ◌+◌, ◌-◌, ◌<◌, ◌≤◌, List, [], ◌∷◌, ◌++◌, take, drop, length, map, refl, sym, ap, ◌∙◌, subst, arith}
+use Rattle.std.specs.Prelude.{Bool, true, false, nat_lt, if◌then◌else◌, slice_index_or, replicate, Option, Some, None, slice_get, slice_set, Ok, Err}
 use Rattle.wasm_ast.specs.declared.types.Limits.{Limits}
 use Rattle.wasm_ast.specs.declared.instructions.Expr.{Expr}
 use Rattle.wasm_ast.specs.declared.modules.Mode.TheVariants.{Declared, Active}
@@ -11,14 +11,13 @@ use Rattle.wasm_ast.specs.declared.runs.Cause.TheVariants.{Memory as MemoryCause
 use Rattle.wasm_rules.specs.Words.{Kind, Kept}
 use Rattle.wasm_image.specs.Sizes.{AreAtMost, most_pages}
 use Rattle.wasm_reduction.specs.Combinators.{written}
-use Rattle.wasm_reduction.specs.Configurations.{Reference, Value, Store, End, Traps, Stuck}
+use Rattle.wasm_reduction.specs.Configurations.{Reference, Store, End, Traps, Stuck}
 use Rattle.wasm_reduction.specs.Images.{value_image, values_image}
 use Rattle.wasm_reduction.specs.Instantiation.{Instantiated, offset_in, with_part, in_range, drop_elem, drop_data, first_memory, allocated, after, start_elem, start_elems, start_data, start_datas, instantiated}
 use Rattle.wasm_machine.specs.declared.values.Reference.{Reference as CodeReference}
 use Rattle.wasm_machine.specs.declared.values.Value.{Value as CodeValue}
 use Rattle.wasm_machine.specs.Configurations.{datas_of}
-use Rattle.wasm_machine.specs.Acts.{Sane}
-use Rattle.wasm_machine.specs.Starts.{plain, Parts, store_with, first_state, AreBytes, FromBytes}
+use Rattle.wasm_machine.specs.Starts.{plain, Parts, store_with, AreBytes, FromBytes}
 use Rattle.wasm_machine.specs.Values.{reference, value, ValueHeld, ValuesHeld}
 use Rattle.wasm_machine.proofs.Lists.{all-append, all-take, all-drop}
 use Rattle.wasm_machine.proofs.StartLemmas.{datas_dropped, ElemsSoFar, next_elem, DatasSoFar, next_data, WordsSoFar, values_kept, get_map, set_map, written_map, long_map, append_map, PagesSoFar, pages_more}
@@ -83,9 +82,6 @@ module _ (m : Module) (b : List ℕ) (p : Parts) (k x place : ℕ) (offset : Exp
       data_reaches
       ∙ ap (λ t. if t then Err (Traps MemoryCause) else Ok (drop_data k (record (store_with m b p) { memory = written place bytes b }))) test
       ∙ ap (λ ds. Ok (record (store_with m (written place bytes b) p) { datas = ds })) (sym (datas_dropped p.dropped m.segments k))
-
-pub data_stuck : (m : Module) (b : List ℕ) (p : Parts) (k x : ℕ) (offset : Expr) → offset_in (map plain p.globals) offset ≡ None → start_data k (Active x offset) (store_with m b p) ≡ Err Stuck
-data_stuck m b p k x offset at = ap (λ o. data_at (store_with m b p) k o (slice_get (datas_of p.dropped m.segments) k)) at
 
 pub written_bytes : (place : ℕ) (bytes b : List ℕ) → AreBytes bytes → AreBytes b → AreBytes (written place bytes b)
 written_bytes place bytes b h k =
@@ -153,15 +149,6 @@ elems_more m old mid new k e so there count dropped is = record {
   same = λ b. so.same b ∙ next_elem m.elems k e (store_with m b mid) there ∙ ap (λ r. after r (start_elems (k + 1) (drop (k + 1) m.elems))) (is b);
 }
 
-pub elems_done : (m : Module) (old new : Parts) (k : ℕ) (b : List ℕ) → length m.elems ≤ k → ElemsSoFar m old new k → start_elems 0 m.elems (store_with m b old) ≡ Ok (store_with m b new)
-elems_done m old new k b all so = so.same b ∙ ap (λ es. start_elems k es (store_with m b new)) (drop_none m.elems k all)
-  where
-    drop_none : (es : List Elem) (k : ℕ) → length es ≤ k → drop k es ≡ []
-    drop_none [] zero all = refl
-    drop_none [] (suc k) all = refl
-    drop_none (e ∷ es) zero all = absurd (omega arith)
-    drop_none (e ∷ es) (suc k) all = drop_none es k (omega arith)
-
 module _ {V : Type 0} (word : ℕ → V) (m : Module) (old : Parts) (old_cells : List V) where
   pub datas_stop_at : (mid new : Parts) (mid_cells new_cells : List V) (k : ℕ) (g : Segment) (stop : End ℕ) → DatasSoFar word m old old_cells mid mid_cells k → slice_get m.segments k ≡ Some g →
       FromBytes word mid_cells new_cells (λ b c. start_data k g.mode (store_with m b mid) ≡ Err stop) →
@@ -218,19 +205,6 @@ resized old new n len x none short is =
 
 pub test_from : (size count long many place : ℕ) (r : Bool) → r ≡ nat_lt size (place + count) → size ≡ long → count ≡ many → nat_lt long (place + many) ≡ r
 test_from size count long many place r is a b = rw (sym a, sym b) (sym is)
-
-pub sane_first : {A V : Type 0} (H : A → V → Type 0) (a : A) (p : Parts) (entry : ℕ) (operands globals : List (CodeValue V)) → ValuesHeld (H a) operands → ValuesHeld (H a) globals →
-    Sane H a (first_state p entry operands globals)
-sane_first H a p entry operands globals o g = record {
-  lies = record {
-    frame = record { height = omega arith; falls = omega arith; labels_within = omega arith; base_within = omega arith };
-    callers = tt;
-    short = tt;
-  };
-  operands = o;
-  locals = tt;
-  globals = g;
-}
 
 pub pages_next : (m : Module) (i pages : ℕ) (ls : List Limits) (d : Limits) → ls ≡ m.memories → i < length ls → PagesSoFar m i pages → AreAtMost most_pages m.memories →
     PagesSoFar m (i + 1) (pages + (slice_index_or ls i d).min)

@@ -1,6 +1,6 @@
 -- Laws of instantiation.
-use Rattle.std.proofs.Common.{◌≡◌, ℕ, zero, suc, ◌+◌, ◌-◌, ◌*◌, ◌^◌, ◌<◌, ◌≤◌, List, [], ◌∷◌, ◌++◌, take, drop, length, map, flat_map, get_or, reverse, refl, sym, ap, ◌∙◌, subst, arith, append-nil, append_assoc}
-use Rattle.std.specs.Prelude.{Bool, true, false, nat_lt, if◌then◌else◌, All, Option, Some, None, option_map, option_and_then, slice_get, slice_set, replicate, Result, Ok, Err, MatchOption}
+use Rattle.std.proofs.Common.{◌≡◌, ℕ, zero, suc, ◌+◌, ◌-◌, ◌*◌, ◌<◌, ◌≤◌, List, [], ◌∷◌, ◌++◌, take, drop, length, map, flat_map, get_or, refl, sym, ap, ◌∙◌, subst, arith, append-nil, append_assoc}
+use Rattle.std.specs.Prelude.{Bool, true, false, Option, Some, None, option_map, option_and_then, slice_get, slice_set, replicate, Ok, Err}
 use Rattle.std.specs.List.{AllByRecursion}
 use Rattle.wasm_ast.specs.declared.types.Limits.{Limits}
 use Rattle.wasm_ast.specs.declared.modules.Elem.{Elem}
@@ -9,8 +9,8 @@ use Rattle.wasm_ast.specs.declared.modules.Module.{Module}
 use Rattle.wasm_ast.specs.declared.runs.Value.{Value as Argument}
 use Rattle.wasm_ast.specs.declared.runs.Value.TheVariants.{I32 as I32Argument, I64 as I64Argument, Func as FuncArgument, Extern as ExternArgument}
 use Rattle.wasm_rules.specs.Words.{Kind, Kept}
-use Rattle.wasm_reduction.specs.Configurations.{Reference, Value, I32 as I32Value, I64 as I64Value, Store, Config, End}
-use Rattle.wasm_reduction.specs.Images.{value_image, values_image, store_image, end_image}
+use Rattle.wasm_reduction.specs.Configurations.{Reference, I32 as I32Value, I64 as I64Value, Store}
+use Rattle.wasm_reduction.specs.Images.{value_image, values_image}
 use Rattle.wasm_reduction.specs.Instantiation.{all_of, reference_in, first_globals, first_elems, first_tables, first_memory, allocated_with, allocated, after, start_elem, start_elems, start_data, start_datas, instantiated, argument, invoked, first_config}
 use Rattle.wasm_reduction.specs.Combinators.{written}
 use Rattle.wasm_reduction.specs.Memories.{page_bytes}
@@ -22,7 +22,7 @@ use Rattle.wasm_machine.specs.declared.start.Stop.TheVariants.{Traps as StopTrap
 use Rattle.wasm_machine.specs.Configurations.{datas_of, config_of, configuration}
 use Rattle.wasm_machine.specs.States.{State}
 use Rattle.wasm_machine.specs.Values.{reference, value, ValueHeld, ValuesHeld}
-use Rattle.wasm_machine.specs.Starts.{argument_value, plain, Parts, HasSegments, store_with, stop_of, Writes, AreBytes, FromBytes, first_state}
+use Rattle.wasm_machine.specs.Starts.{argument_value, plain, Parts, HasSegments, store_with, stop_of, AreBytes, FromBytes, first_state}
 
 -- ---- all of a list
 

@@ -1,5 +1,5 @@
 -- One step, put together from the instruction that is next.
-use Rattle.std.proofs.Common.{◌≡◌, ℕ, zero, suc, ◌+◌, ◌-◌, ◌^◌, ◌<◌, ◌≤◌, List, [], ◌∷◌, ◌++◌, map, take, drop, length, refl, sym, ap, ◌∙◌, subst, arith}
+use Rattle.std.proofs.Common.{◌≡◌, ℕ, zero, suc, ◌+◌, ◌-◌, ◌^◌, ◌<◌, ◌≤◌, List, [], ◌∷◌, ◌++◌, map, drop, length, refl, sym, ap, ◌∙◌, subst, arith}
 use Rattle.std.specs.Prelude.{All, slice_get, get_or, Option, Some, None}
 use Rattle.std.specs.List.{AllByRecursion}
 use Rattle.std.proofs.lemmas.List.{length-map}
@@ -7,23 +7,22 @@ use Rattle.wasm_ast.specs.declared.instructions.Instr.{Instr}
 use Rattle.wasm_ast.specs.declared.instructions.Instr.TheVariants.{Call}
 use Rattle.wasm_ast.specs.declared.modules.Module.{Module}
 use Rattle.wasm_rules.specs.Words.{Kind, Kept}
-use Rattle.wasm_reduction.specs.Configurations.{Value, Config, Next}
 use Rattle.wasm_reduction.specs.Control.{finish}
 use Rattle.wasm_reduction.specs.Instantiation.{start_call}
 use Rattle.wasm_image.specs.Sizes.{most_elements}
 use Rattle.wasm_reduction.specs.Maps.{InRange, ValuesHave}
-use Rattle.wasm_reduction.specs.Steps.{act, step, step_code}
+use Rattle.wasm_reduction.specs.Steps.{act, step_code}
 use Rattle.wasm_reduction.specs.Widths.{HasWidths}
 use Rattle.wasm_machine.specs.declared.values.Reference.{Reference as CodeReference}
 use Rattle.wasm_machine.specs.declared.values.Value.{Value as CodeValue}
 use Rattle.wasm_machine.specs.declared.next.Next.{Next as CodeNext}
 use Rattle.wasm_machine.specs.declared.next.Next.TheVariants.{Goes as CodeGoes, Draws as CodeDraws, Asks as CodeAsks, Ends as CodeEnds}
 use Rattle.wasm_machine.specs.States.{State}
-use Rattle.wasm_machine.specs.Moves.{own, passed}
+use Rattle.wasm_machine.specs.Moves.{own}
 use Rattle.wasm_machine.specs.Values.{reference, value}
 use Rattle.wasm_machine.specs.Configurations.{code_of, outer_call_of, config_of, image, configuration}
 use Rattle.wasm_machine.specs.Stores.{TablesSmall, CellsReady}
-use Rattle.wasm_machine.specs.Acts.{Sane, Ready, IsNext, told, After, Acts, BytesAfter, ActsOn}
+use Rattle.wasm_machine.specs.Acts.{IsNext, told, Acts, BytesAfter, ActsOn}
 use Rattle.wasm_machine.specs.Says.{Says}
 use Rattle.wasm_machine.specs.Steps.{Steps, StepsAnyhow}
 use Rattle.wasm_machine.proofs.Lists.{drop_at_some, drop_at_none}

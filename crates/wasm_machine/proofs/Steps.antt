@@ -1,23 +1,21 @@
 -- What the machine's moves are to the configuration that its state stands for.
 use Rattle.std.proofs.Common.{◌≡◌, ℕ, zero, suc, ◌+◌, ◌-◌, ◌<◌, ◌≤◌, ◌^◌, List, [], ◌∷◌, ◌++◌, take, drop, length, reverse, refl, sym, ap, ◌∙◌, subst, arith, length-append}
-use Rattle.std.specs.Prelude.{Bool, true, false, slice_set, slice_get, Option, Some, None, replicate}
-use Rattle.std.proofs.lemmas.List.{take-set-le, drop-set-add, length-reverse, length-drop, take-append-drop, reverse-append, take-append-le, drop-append-le, take-take, drop-drop, length-take-le, drop-take, drop_all, take_all}
+use Rattle.std.specs.Prelude.{Bool, true, false, slice_set, slice_get, Some}
+use Rattle.std.proofs.lemmas.List.{take-set-le, drop-set-add, length-reverse, length-drop, take-append-drop, reverse-append, take-append-le, drop-append-le, take-take, drop-drop, length-take-le, drop-take, drop_all}
 use Rattle.std.proofs.Math.Seq.{take-length, drop-length, drop-append_seam, take-append_seam}
 use Rattle.std.proofs.lemmas.Bool.{le-ltb}
 use Rattle.wasm_ast.specs.declared.instructions.Instr.{Instr}
-use Rattle.wasm_ast.specs.declared.types.FuncType.{FuncType}
 use Rattle.wasm_ast.specs.declared.modules.Func.{Func}
 use Rattle.wasm_ast.specs.declared.modules.Module.{Module}
-use Rattle.wasm_rules.specs.Words.{Kind}
-use Rattle.wasm_reduction.specs.Configurations.{Value, Label, Frame, Config, Next, Goes}
-use Rattle.wasm_reduction.specs.Combinators.{cost_under, past, holding, with_locals, with_globals}
+use Rattle.wasm_reduction.specs.Configurations.{Value, Label, Frame, Config, Goes}
+use Rattle.wasm_reduction.specs.Combinators.{cost_under, past, holding, with_locals}
 use Rattle.wasm_check.specs.Trees.{seq_of}
 use Rattle.wasm_reduction.specs.Control.{give_back, finish, entering, branch}
 use Rattle.wasm_machine.specs.declared.machine.Label.{Label as CodeLabel}
 use Rattle.wasm_machine.specs.declared.machine.Frame.{Frame as CodeFrame}
 use Rattle.wasm_machine.specs.States.{State}
-use Rattle.wasm_machine.specs.Moves.{pushed, without, replaced, own, cost, passed, with_local, with_global, entered, kept, again_place, left, jumped, returned, called}
-use Rattle.wasm_machine.specs.Configurations.{seqs_of, code_of, again_of, label_of, labels_of, waiting, frame_of, frames_of, config_of, Fall, FrameLies, FramesLie, Short, Lies}
+use Rattle.wasm_machine.specs.Moves.{pushed, without, replaced, own, cost, passed, with_local, entered, kept, again_place, left, jumped, returned, called}
+use Rattle.wasm_machine.specs.Configurations.{seqs_of, code_of, again_of, label_of, labels_of, waiting, frames_of, config_of, Fall, FramesLie, Short, Lies}
 use Rattle.wasm_machine.proofs.Lists.{drop-suc, drop_split, take-reverse, drop-reverse, reverse-reverse}
 
 -- the floor is the lowest
@@ -99,9 +97,6 @@ config_of-replaced m b s n x l h =
     config_of-pushed m b (without n s) x (lies-without s n l h) ∙
     ap (λ o. holding (config_of m b (without n s)) (x ∷ o)) (own-without s n l h) ∙
     ap (λ c. holding c (x ∷ drop n (own s))) (config_of-without m b s n l h)
-
-pub lies-replaced : {X : Type 0} (s : State X) (n : ℕ) (x : X) → Lies s → n ≤ length (own s) → Lies (replaced n x s)
-lies-replaced s n x l h = lies-pushed (without n s) x (lies-without s n l h)
 
 -- ---- instructions
 

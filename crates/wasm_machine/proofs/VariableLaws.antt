@@ -1,27 +1,26 @@
 -- Variable instructions.
-use Rattle.std.proofs.Common.{◌≡◌, ℕ, zero, suc, ◌+◌, ◌-◌, ◌<◌, ◌≤◌, List, [], ◌∷◌, map, drop, length, refl, sym, ap, ◌∙◌, subst, arith}
-use Rattle.std.specs.Prelude.{Bool, true, false, Option, Some, None, slice_get, slice_set, option_map}
+use Rattle.std.proofs.Common.{◌≡◌, ℕ, ◌+◌, ◌-◌, ◌<◌, ◌≤◌, List, [], ◌∷◌, map, drop, length, refl, sym, ap, ◌∙◌, subst, arith}
+use Rattle.std.specs.Prelude.{Option, Some, None, slice_get, slice_set, option_map}
 use Rattle.std.proofs.lemmas.Option.{slice_get_within, slice_get-map}
 use Rattle.std.proofs.lemmas.List.{drop-map, length-drop}
-use Rattle.wasm_ast.specs.declared.instructions.Instr.{Instr}
 use Rattle.wasm_ast.specs.declared.instructions.Instr.TheVariants.{LocalGet, LocalSet, LocalTee, GlobalGet, GlobalSet}
 use Rattle.wasm_ast.specs.declared.modules.Module.{Module}
-use Rattle.wasm_rules.specs.Words.{Kind, Kept}
-use Rattle.wasm_reduction.specs.Configurations.{Value, Config, Next, Goes, Ends, Stuck}
+use Rattle.wasm_rules.specs.Words.{Kind}
+use Rattle.wasm_reduction.specs.Configurations.{Value, Next, Goes, Ends, Stuck}
 use Rattle.wasm_reduction.specs.Combinators.{holding, with_locals, with_globals, with_found}
 use Rattle.wasm_machine.specs.declared.values.Value.{Value as CodeValue}
 use Rattle.wasm_machine.specs.declared.next.Next.TheVariants.{Goes as CodeGoes, Ends as CodeEnds}
 use Rattle.wasm_machine.specs.declared.next.End.TheVariants.{Stuck as CodeStuck}
 use Rattle.wasm_machine.specs.States.{State}
 use Rattle.wasm_machine.specs.Moves.{own, passed, pushed, without, with_local, with_global}
-use Rattle.wasm_machine.specs.Values.{value, ValueHeld, ValuesHeld}
-use Rattle.wasm_machine.specs.Configurations.{Lies, image, config_of, configuration}
+use Rattle.wasm_machine.specs.Values.{value, ValueHeld}
+use Rattle.wasm_machine.specs.Configurations.{image, config_of, configuration}
 use Rattle.wasm_machine.specs.Acts.{Sane, Acts}
 use Rattle.wasm_machine.proofs.Lists.{all-get, all-drop}
 use Rattle.wasm_machine.proofs.Steps.{config_of-local, lies-passed}
 use Rattle.wasm_machine.proofs.Images.{own-image, own-held, kept-same, image-local, image-global, sane-passed, sane-without, sane-local, sane-global}
 use Rattle.wasm_machine.proofs.Operands.{found-value, no-value}
-use Rattle.wasm_machine.proofs.ActLaws.{acting, push-acts, stuck-acts, drop-config}
+use Rattle.wasm_machine.proofs.ActLaws.{push-acts, stuck-acts, drop-config}
 
 -- ---- a variable, in the meaning of the state
 

@@ -1,10 +1,9 @@
 -- What the parts of control instructions promise.
-use Rattle.std.specs.Prelude.{◌≡◌, ◌∷◌, ◌+◌, ◌<◌, ℕ, Bool, true, false, List, [], length, drop, take, Option, Some, None}
+use Rattle.std.specs.Prelude.{◌≡◌, ℕ, Bool, true, false, List, length, Some}
 use Rattle.wasm_ast.specs.declared.types.BlockType.{BlockType}
 use Rattle.wasm_ast.specs.declared.types.FuncType.{FuncType}
 use Rattle.wasm_ast.specs.declared.instructions.Instr.TheVariants.{Loop}
 use Rattle.wasm_ast.specs.declared.modules.Module.{Module}
-use Rattle.wasm_rules.specs.Words.{Kind}
 use Rattle.wasm_reduction.specs.Configurations.{Value, Config, Next}
 use Rattle.wasm_reduction.specs.Control.{block, loop}
 use Rattle.wasm_machine.specs.declared.values.Value.{Value as CodeValue}
@@ -12,9 +11,7 @@ use Rattle.wasm_machine.specs.declared.next.Next.{Next as CodeNext}
 use Rattle.wasm_machine.specs.declared.next.Next.TheVariants.{Goes as CodeGoes, Draws as CodeDraws, Asks as CodeAsks, Ends as CodeEnds}
 use Rattle.wasm_machine.specs.declared.control.Arities.{Arities}
 use Rattle.wasm_machine.specs.States.{State}
-use Rattle.wasm_machine.specs.Moves.{passed, own}
 use Rattle.wasm_machine.specs.Values.{EndHeld}
-use Rattle.wasm_machine.specs.Configurations.{image, configuration}
 use Rattle.wasm_machine.specs.Acts.{Sane, IsNext, told, After}
 
 -- It asks nothing: the state afterwards is in order, or the words that it ends with are held.

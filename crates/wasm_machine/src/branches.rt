@@ -1,5 +1,5 @@
 // Branches (Execution, Instructions: Control Instructions).
-ghost use Rattle.std.specs.Prelude.{◌≡◌, ◌<◌, ◌^◌, ℕ, false, IfOk, Some, length};
+ghost use Rattle.std.specs.Prelude.{◌≡◌, ◌<◌, ◌^◌, false, IfOk, Some, length};
 ghost use Rattle.wasm_ast.specs.declared.modules.Module.{Module as OneModule};
 ghost use Rattle.wasm_ast.specs.declared.instructions.Instr.{Instr};
 ghost use Rattle.wasm_rules.specs.Words.{Kept};
@@ -9,7 +9,6 @@ ghost use Rattle.wasm_machine.specs.Configurations.{image as image_of, configura
 ghost use Rattle.wasm_machine.specs.Acts.{Sane, Ready, Acts};
 ghost use Rattle.wasm_machine.specs.Says.{Says};
 ghost use Rattle.wasm_machine.specs.Choices.{choice_of};
-ghost use Rattle.wasm_machine.specs.Values.{word_at};
 
 use crate::control::give_back;
 use crate::machine::Machine;

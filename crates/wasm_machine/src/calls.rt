@@ -1,5 +1,5 @@
 // Calls (Execution, Instructions: Function Calls).
-ghost use Rattle.std.specs.Prelude.{List, MatchOption, None, ◌≡◌, ◌≤◌, ◌+◌, ◌<◌, ◌^◌, ℕ, Bool, true, false, IfOk, Some, length, drop, slice_get, option_map};
+ghost use Rattle.std.specs.Prelude.{List, MatchOption, None, ◌≡◌, ◌≤◌, ◌+◌, ◌<◌, ℕ, true, false, IfOk, Some, length, drop, slice_get, option_map};
 ghost use Rattle.wasm_ast.specs.declared.modules.Module.{Module as OneModule};
 ghost use Rattle.wasm_ast.specs.declared.instructions.Instr.{Instr};
 ghost use Rattle.wasm_rules.specs.Words.{Kept};

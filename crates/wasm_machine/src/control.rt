@@ -1,9 +1,7 @@
 // Control instructions: blocks, and the ends of labels and frames (Execution, Instructions: Control Instructions, Blocks).
-ghost use Rattle.std.specs.Prelude.{◌≡◌, ◌≤◌, ◌+◌, ◌<◌, ◌^◌, ℕ, Bool, true, false, IfOk, Some, None, length, take, option_map};
+ghost use Rattle.std.specs.Prelude.{◌≡◌, ◌≤◌, ◌+◌, ◌<◌, ◌^◌, true, false, IfOk, Some, None, length, take, option_map};
 ghost use Rattle.wasm_ast.specs.declared.modules.Module.{Module as OneModule};
 ghost use Rattle.wasm_ast.specs.declared.instructions.Instr.{Instr};
-ghost use Rattle.wasm_ast.specs.declared.types.BlockType.{BlockType as OneBlockType};
-ghost use Rattle.wasm_rules.specs.Words.{Kept};
 ghost use Rattle.wasm_reduction.specs.Functions.{block_type as block_type_of};
 ghost use Rattle.wasm_reduction.specs.Control.{finish, give_back as give_back_of};
 ghost use Rattle.wasm_machine.specs.Moves.{own, passed};

@@ -1,6 +1,5 @@
 // The machine's state, and what moves it.
-ghost use Rattle.std.specs.Prelude.{◌≡◌, ◌∷◌, [], ◌++◌, ◌+◌, ◌-◌, ◌<◌, ◌≤◌, ◌^◌, ℕ, Bool, length, OnOk, OnErr, IfOk, IfSome, MatchOption, MatchBool, slice_get, take, drop, reverse, List, Some, None, option_and_then};
-ghost use Rattle.wasm_ast.specs.declared.instructions.Instr.{Instr as OneInstr};
+ghost use Rattle.std.specs.Prelude.{◌≡◌, ◌∷◌, [], ◌++◌, ◌+◌, ◌-◌, ◌<◌, ◌≤◌, ◌^◌, length, OnOk, IfOk, IfSome, MatchOption, MatchBool, slice_get, take, drop, List, Some, None};
 ghost use Rattle.wasm_machine.specs.States.{State};
 ghost use Rattle.wasm_machine.specs.Moves.{pushed, without, replaced, own, cost, passed, noted, with_local, with_global, entered, kept, again_place, left, from_end, branched, returned, called};
 ghost use Rattle.wasm_machine.specs.Configurations.{code_of, outer_call_of};

@@ -1,12 +1,12 @@
 // Numeric instructions (Execution, Instructions: Numeric Instructions).
-ghost use Rattle.std.specs.Prelude.{◌≡◌, ℕ, Bool, true, IfOk, Some};
+ghost use Rattle.std.specs.Prelude.{◌≡◌, true, IfOk, Some};
 ghost use Rattle.wasm_ast.specs.declared.modules.Module.{Module as OneModule};
 ghost use Rattle.wasm_ast.specs.declared.instructions.Instr.{Instr};
 ghost use Rattle.int_ops.specs.declared.operators.Unary.{Unary as OneUnary};
 ghost use Rattle.int_ops.specs.declared.operators.Operation.{Operation as OneOperation};
 ghost use Rattle.int_ops.specs.Operators.{operator_of, bits_of, divides as divides_of, is_div_s as is_div_s_of};
 ghost use Rattle.wasm_rules.specs.Words.{Kept};
-ghost use Rattle.wasm_reduction.specs.Numeric.{is_wide as is_wide_of, eqz_op as eqz_op_of, eq_op as eq_op_of, is_zero as is_zero_of, is_overflow as is_overflow_of};
+ghost use Rattle.wasm_reduction.specs.Numeric.{is_wide as is_wide_of, eqz_op as eqz_op_of, eq_op as eq_op_of, is_overflow as is_overflow_of};
 ghost use Rattle.wasm_machine.specs.Moves.{own};
 ghost use Rattle.wasm_machine.specs.Values.{word_at};
 ghost use Rattle.wasm_machine.specs.Acts.{Ready, Acts};

@@ -1,12 +1,10 @@
 // Parametric instructions (Execution, Instructions: Parametric Instructions).
-ghost use Rattle.std.specs.Prelude.{◌≡◌, ℕ, false, IfOk, Some};
+ghost use Rattle.std.specs.Prelude.{◌≡◌, false, IfOk, Some};
 ghost use Rattle.wasm_ast.specs.declared.modules.Module.{Module as OneModule};
 ghost use Rattle.wasm_ast.specs.declared.instructions.Instr.{Instr};
 ghost use Rattle.wasm_rules.specs.Words.{Kept};
 ghost use Rattle.wasm_machine.specs.Acts.{Ready, Acts};
-ghost use Rattle.std.specs.Prelude.{slice_get};
-ghost use Rattle.wasm_machine.specs.Moves.{own};
-ghost use Rattle.wasm_machine.specs.Values.{word_at, valued};
+ghost use Rattle.wasm_machine.specs.Values.{valued};
 ghost use Rattle.wasm_machine.specs.Selects.{Three, by_answer};
 ghost use Rattle.wasm_machine.specs.declared.values.Value.{Value as OneValue};
 

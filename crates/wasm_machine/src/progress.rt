@@ -1,6 +1,5 @@
 // The operands of instructions that access a table or a memory, with the questions on them.
-ghost use Rattle.std.specs.Prelude.{◌≡◌, ℕ, ◌+◌, ◌<◌, ◌≤◌, ◌^◌, Bool, false, List, IfOk, IfSome, length, drop, slice_get, option_map};
-ghost use Rattle.wasm_ast.specs.declared.runs.Cause.{Cause as OneCause};
+ghost use Rattle.std.specs.Prelude.{◌≡◌, ℕ, ◌+◌, ◌<◌, ◌≤◌, ◌^◌, false, List, IfOk, IfSome, length, drop, slice_get, option_map};
 ghost use Rattle.wasm_rules.specs.Words.{Kept, bits_where};
 ghost use Rattle.wasm_reduction.specs.Configurations.{Reference as OneReference, Value as OneValue, Next as Step};
 ghost use Rattle.wasm_reduction.specs.Combinators.{with_found, with_word, with_reference};

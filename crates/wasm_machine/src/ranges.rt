@@ -3,11 +3,10 @@
 //
 // These functions say of the answers that an instruction has had so far what comes next: a question, that the access is out
 // of bounds, or the numbers that were picked. They know neither the machine nor the memory.
-ghost use Rattle.std.specs.Prelude.{◌≡◌, ℕ, ◌+◌, ◌<◌, ◌≤◌, ◌^◌, List, ◌∷◌, [], Bool, nat_lt, IfOk, MatchOption, length, slice_get, drop};
+ghost use Rattle.std.specs.Prelude.{◌≡◌, ℕ, ◌+◌, ◌<◌, ◌≤◌, ◌^◌, List, ◌∷◌, [], nat_lt, IfOk, MatchOption, length, slice_get, drop};
 ghost use Rattle.wasm_ast.specs.declared.runs.Cause.{Cause as OneCause};
 ghost use Rattle.wasm_rules.specs.Words.{Kept};
 ghost use Rattle.wasm_reduction.specs.Configurations.{Reference as OneReference, Value as OneValue, Config, Next as Step};
-ghost use Rattle.wasm_reduction.specs.Combinators.{picking};
 ghost use Rattle.wasm_reduction.specs.Ranges.{with_element, indexing as indexing_of, ends_past as past_end, addressing as addressing_of, range_ends_past as range_past_end, filling as filling_of, copying as copying_of, growing as growing_of, growth_limit as growth_limit_of};
 ghost use Rattle.wasm_machine.specs.Reached.{reached, AskHeld, IfAt, FillWithin, CopyWithin, grows, GrowthAsks, IfGrows};
 

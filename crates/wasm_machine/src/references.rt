@@ -1,5 +1,5 @@
 // Reference instructions (Execution, Instructions: Reference Instructions).
-ghost use Rattle.std.specs.Prelude.{◌≡◌, ℕ, IfOk, Some, option_map};
+ghost use Rattle.std.specs.Prelude.{◌≡◌, IfOk, Some, option_map};
 ghost use Rattle.wasm_ast.specs.declared.modules.Module.{Module as OneModule};
 ghost use Rattle.wasm_ast.specs.declared.instructions.Instr.{Instr};
 ghost use Rattle.wasm_rules.specs.Words.{Kept};

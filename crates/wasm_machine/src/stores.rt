@@ -1,5 +1,5 @@
 // The tables and the segments of the machine's state.
-ghost use Rattle.std.specs.Prelude.{◌≡◌, ℕ, ◌+◌, ◌<◌, ◌≤◌, List, ◌++◌, [], MatchOption, OnOk, OnErr, Some, None, length, map, option_map, replicate, slice_get, slice_set, slice_index_or, ◌≢◌};
+ghost use Rattle.std.specs.Prelude.{◌≡◌, ◌+◌, ◌<◌, ◌≤◌, ◌++◌, [], MatchOption, OnOk, OnErr, Some, None, length, map, option_map, replicate, slice_get, slice_set, slice_index_or, ◌≢◌};
 ghost use Rattle.wasm_reduction.specs.Combinators.{written, part};
 ghost use Rattle.wasm_machine.specs.declared.values.Reference.{Reference as OneReference};
 ghost use Rattle.wasm_machine.specs.Configurations.{datas_of};

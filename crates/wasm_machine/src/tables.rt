@@ -1,5 +1,5 @@
 // Table instructions (Execution, Instructions: Table Instructions).
-ghost use Rattle.std.specs.Prelude.{◌≡◌, ℕ, IfOk, option_map, slice_get};
+ghost use Rattle.std.specs.Prelude.{◌≡◌, IfOk, option_map, slice_get};
 ghost use Rattle.wasm_ast.specs.declared.modules.Module.{Module as OneModule};
 ghost use Rattle.wasm_ast.specs.declared.instructions.Instr.{Instr};
 ghost use Rattle.wasm_rules.specs.Words.{Kept};

@@ -1,8 +1,7 @@
 // Variable instructions (Execution, Instructions: Variable Instructions).
-ghost use Rattle.std.specs.Prelude.{◌≡◌, ℕ, Bool, IfOk, Some};
+ghost use Rattle.std.specs.Prelude.{IfOk, Some};
 ghost use Rattle.wasm_ast.specs.declared.modules.Module.{Module as OneModule};
 ghost use Rattle.wasm_ast.specs.declared.instructions.Instr.{Instr};
-ghost use Rattle.wasm_rules.specs.Words.{Kept};
 ghost use Rattle.wasm_machine.specs.Acts.{Ready, Acts};
 
 use crate::machine::Machine;

@@ -1,9 +1,9 @@
 -- From all sections to the module.
-use Rattle.std.proofs.Common.{◌≡◌, ℕ, zero, suc, ◌+◌, ◌-◌, ◌<◌, ◌≤◌, Bool, true, false, cond, List, [], ◌∷◌, map, refl, sym, ap, subst, ◌∙◌, arith, inl, inr}
+use Rattle.std.proofs.Common.{◌≡◌, ℕ, zero, suc, ◌+◌, ◌-◌, ◌≤◌, false, List, [], ◌∷◌, map, refl, sym, ap, ◌∙◌, arith, inl, inr}
 use Rattle.std.specs.Prelude.{◌==◌, min}
 use Rattle.std.specs.List.{zip}
 use Rattle.std.proofs.lemmas.Bool.{ne_eqb, cases_lt}
-use Rattle.owi_base.proofs.SignedReading.{taken, passed}
+use Rattle.owi_base.proofs.SignedReading.{passed}
 use Rattle.wasm_ast.specs.Sections.{is_written}
 use Rattle.wasm_ast.specs.declared.modules.Func.{Func}
 use Rattle.wasm_ast.specs.declared.modules.Module.{Module}
@@ -54,11 +54,6 @@ last_of_any m slot capped is =
           ap (last_written m) top ∙ sym (past_all m (slot - 12)) ∙ ap (last_written m) whole
       | inr le ↦ ap (last_written m) (let same : capped ≡ slot = omega arith in same)
     ]
-
--- one slot more
-pub written_here : (m : Module) (slot : ℕ) → 1 ≤ slot → is_written m slot ≡ true → slot ≡ last_written m slot
-written_here m zero le w = absurd (omega arith)
-written_here m (suc k) le w = sym (taken (is_written m (suc k)) (suc k) (last_written m k) w)
 
 pub written_before : (m : Module) (slot before : ℕ) → 1 ≤ slot → is_written m slot ≡ false → before ≡ last_written m (slot - 1) → before ≡ last_written m slot
 written_before m zero before le w is = absurd (omega arith)

@@ -1,5 +1,5 @@
 -- Reading the entries of a vector one after another.
-use Rattle.std.proofs.Common.{◌≡◌, ℕ, suc, ◌+◌, ◌-◌, ◌<◌, ◌≤◌, List, [], ◌∷◌, ◌++◌, Result, Ok, Err, Option, Some, None, IfSome, refl, sym, ap, ◌∙◌, arith, append_assoc, append-nil}
+use Rattle.std.proofs.Common.{◌≡◌, ℕ, suc, ◌+◌, ◌-◌, ◌<◌, List, [], ◌∷◌, ◌++◌, Result, Ok, Err, Option, Some, None, IfSome, refl, sym, ap, ◌∙◌, arith, append_assoc}
 use Rattle.owi_base.specs.Forms.{Window, Form, many, read_on}
 use Rattle.wasm_binary.specs.Faults.{Fault}
 
@@ -50,10 +50,3 @@ pub told_of_all : {A : Type 0} (f : Form Fault A) (count i : ℕ) (w : Window Fa
     → all ≡ put_before done ((many f (count - i)).read w at) → IfSome told (λ fault. f.read w at ≡ Err fault) → IfSome told (λ fault. all ≡ Err fault)
 told_of_all f count i w at done all (Some fault) lt e h = e ∙ entry_refused f count i w at fault done lt h
 told_of_all f count i w at done all None lt e h = h
-
--- no entry is left
-pub entries_read : {A : Type 0} (f : Form Fault A) (count i : ℕ) (w : Window Fault) (at : ℕ) (done : List A) → count ≤ i
-    → put_before done ((many f (count - i)).read w at) ≡ Ok (done, at)
-entries_read {A} f count i w at done le =
-    let none : count - i ≡ 0 = omega arith in
-    ap (λ k. put_before done ((many f k).read w at)) none ∙ ap (λ (l : List A). ok l at) (append-nil done)

@@ -1,5 +1,5 @@
 -- Joining groups one after another, as they are read, gives the groups of the grammar.
-use Rattle.std.proofs.Common.{◌≡◌, ℕ, suc, ◌+◌, ◌-◌, ◌^◌, ◌<◌, ◌≤◌, ◌⊎◌, inl, inr, Bool, true, false, List, [], ◌∷◌, ◌++◌, reverse, Option, Some, None, IfSome, All, Result, Ok, Err, refl, sym, ap, subst, ◌∙◌, arith, append_assoc}
+use Rattle.std.proofs.Common.{◌≡◌, ℕ, suc, ◌+◌, ◌-◌, ◌<◌, ◌≤◌, ◌⊎◌, inl, inr, Bool, true, false, List, [], ◌∷◌, ◌++◌, reverse, Option, Some, None, IfSome, All, Result, Ok, Err, refl, sym, ap, subst, ◌∙◌, arith, append_assoc}
 use Rattle.std.specs.Prelude.{◌==◌, if◌then◌else◌}
 use Rattle.std.proofs.lemmas.List.{reverse-append}
 use Rattle.std.proofs.lemmas.List.Elements.{All-append, All-push}
@@ -189,12 +189,6 @@ pub told_of_groups : (count i sum : ℕ) (w : Window Fault) (at : ℕ) (done : L
 told_of_groups count i sum w at done all (Some fault) lt e h = e ∙ group_refused count i sum w at fault done lt h
 told_of_groups count i sum w at done all None lt e h = h
 
--- no group is left
-pub groups_read : (count i sum : ℕ) (w : Window Fault) (at : ℕ) (done : List Group) → count ≤ i → put_ahead done ((groups (count - i) sum).read w at) ≡ Ok (reverse done, at)
-groups_read count i sum w at done le =
-    let none : count - i ≡ 0 = omega arith in
-    ap (λ k. put_ahead done ((groups k sum).read w at)) none
-
 -- ---- how many there are
 
 abbrev pub AreAtMost : ℕ → List Group → Type 0
@@ -233,6 +227,3 @@ group_at_most sum g done h =
       | inl empty ↦ subst (AreAtMost (sum + g.count)) (sym (taken (g.count == 0) done (put_some g done) empty)) (more_at_most sum (sum + g.count) done (omega arith) h)
       | inr some ↦ subst (AreAtMost (sum + g.count)) (sym (passed (g.count == 0) done (put_some g done) some)) (some_at_most sum g done h)
     ]
-
-pub sums_fit : (sum n : ℕ) (done : List Group) → sum + n ≤ 50000 → AreAtMost sum done → All (λ g. g.count + n < 2 ^ 32) done
-sums_fit sum n done le h = λ i d lt. omega (arith, h i d lt)

@@ -1,11 +1,10 @@
 -- Reading one section after another.
-use Rattle.std.proofs.Common.{◌≡◌, ◌≢◌, ℕ, zero, suc, ◌+◌, ◌-◌, ◌<◌, ◌≤◌, List, length, take, Result, Ok, Err, Option, Some, None, IfSome, refl, sym, ap, subst, ◌∙◌, arith, inl, inr, length-append, length-drop}
+use Rattle.std.proofs.Common.{◌≡◌, ℕ, zero, suc, ◌+◌, ◌-◌, ◌<◌, ◌≤◌, List, length, Result, Ok, Err, Option, Some, None, IfSome, refl, sym, ap, ◌∙◌, arith, inl, inr}
 use Rattle.std.specs.Prelude.{◌==◌}
-use Rattle.std.proofs.lemmas.Bool.{le-leb, lt-leb, cases_lt, eq-eqb, ne_eqb}
-use Rattle.std.proofs.lemmas.List.{length-take-le}
+use Rattle.std.proofs.lemmas.Bool.{cases_lt, eq-eqb}
 use Rattle.owi_base.specs.Forms.{Window, read_on, up_to, ends_at, left_over}
 use Rattle.owi_base.proofs.FormLaws.{IsBelow}
-use Rattle.owi_base.proofs.SignedReading.{taken, passed}
+use Rattle.owi_base.proofs.SignedReading.{taken}
 use Rattle.wasm_binary.specs.Faults.{Fault, size}
 use Rattle.wasm_binary.specs.Values.{u32, name}
 use Rattle.wasm_binary.specs.Modules.{Sections, contents, sized_contents, section}

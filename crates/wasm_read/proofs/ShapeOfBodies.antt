@@ -1,19 +1,14 @@
 -- The sequences of an expression that is spelled are numbered in the order in which they open, and its instructions have
 -- their shape.
-use Rattle.std.proofs.Common.{◌≡◌, ℕ, zero, suc, ◌+◌, ◌-◌, ◌^◌, ◌<◌, ◌≤◌, ◌⊎◌, inl, inr, Bool, true, false, List, [], ◌∷◌, ◌++◌, length, Result, Ok, Err, Option, Some, None, All, refl, sym, ap, subst, ◌∙◌, arith, length-append, get_or, zero-add}
-use Rattle.std.specs.Prelude.{slice_get, slice_index, nat_lt, nat_le, ◌==◌, ◌&&◌, ◌||◌, option_and_then, IsTrue}
+use Rattle.std.proofs.Common.{◌≡◌, ℕ, zero, suc, ◌+◌, ◌-◌, ◌<◌, inl, inr, true, List, [], ◌∷◌, ◌++◌, length, Option, Some, None, refl, sym, ap, ◌∙◌, arith, length-append, zero-add}
+use Rattle.std.specs.Prelude.{slice_get, slice_index, nat_lt, ◌==◌, ◌&&◌, option_and_then}
 use Rattle.std.proofs.lemmas.List.{get_or_append_left, get_or-append-add}
-use Rattle.std.proofs.lemmas.List.Elements.{All-nil, All-cons, All-append}
-use Rattle.std.proofs.lemmas.Bool.{cases_lt, eqb-true, eqb-false}
+use Rattle.std.proofs.lemmas.Bool.{cases_lt}
 use Rattle.std.proofs.lemmas.Bool.Decides.{nat_tests}
-use Rattle.owi_base.specs.Forms.{Form, gives, ◌>>=◌, many, checked, any_byte, when◌form◌else◌}
 use Rattle.owi_base.proofs.SignedReading.{taken}
-use Rattle.wasm_ast.specs.Numbering.{after, names, named_by, AreEnds, IsNumbered}
-use Rattle.wasm_ast.specs.Shape.{IsShort, InstrHasShape, SeqHasShape, ExprHasShape}
+use Rattle.wasm_ast.specs.Numbering.{after, names, IsNumbered}
 use Rattle.wasm_ast.specs.declared.instructions.Instr.{Instr}
 use Rattle.wasm_ast.proofs.NumberingLemmas.{after-append, if_some}
-use Rattle.wasm_binary.specs.Values.{Grammar}
-use Rattle.wasm_binary.specs.Instructions.{Sequence, all_of, empty_sequence}
 
 -- ---- the numbers of sequences
 

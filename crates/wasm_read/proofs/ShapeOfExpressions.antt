@@ -1,26 +1,23 @@
 -- An expression that is spelled has its shape.
-use Rattle.std.proofs.Common.{◌≡◌, ◌≢◌, ℕ, zero, suc, ◌+◌, ◌-◌, ◌^◌, ◌<◌, ◌≤◌, ◌⊎◌, inl, inr, Bool, true, false, List, [], ◌∷◌, ◌++◌, length, Result, Ok, Err, All, refl, sym, ap, subst, ◌∙◌, arith, length-append}
-use Rattle.std.specs.Prelude.{nat_lt, ◌==◌, ◌&&◌, ◌||◌, not}
+use Rattle.std.proofs.Common.{◌≡◌, ℕ, zero, suc, ◌+◌, ◌-◌, ◌^◌, ◌<◌, ◌≤◌, ◌⊎◌, inl, inr, Bool, true, false, List, [], ◌∷◌, ◌++◌, length, Result, Ok, Err, All, refl, sym, ap, subst, arith, length-append}
+use Rattle.std.specs.Prelude.{◌==◌}
 use Rattle.std.proofs.lemmas.List.Elements.{All-nil, All-cons, All-append}
-use Rattle.std.proofs.lemmas.Bool.{eqb-true, eqb-false}
-use Rattle.std.proofs.Common.{append-nil}
-use Rattle.owi_base.specs.Forms.{Form, gives, ◌>>=◌, checked, any_byte, when◌form◌else◌}
-use Rattle.owi_base.proofs.FormLaws.{HasBytes, by_first_lawful, then_has_bytes, checked_has_bytes, any_byte_has_bytes, signed_has_bytes}
+use Rattle.owi_base.specs.Forms.{gives, when◌form◌else◌}
+use Rattle.owi_base.proofs.FormLaws.{HasBytes}
 use Rattle.owi_base.proofs.UnsignedLaws.{chosen}
 use Rattle.wasm_ast.specs.Numbering.{names, named_by}
-use Rattle.wasm_ast.specs.Shape.{IsShort, InstrHasShape, SeqHasShape, ExprHasShape}
+use Rattle.wasm_ast.specs.Shape.{InstrHasShape, SeqHasShape, ExprHasShape}
 use Rattle.wasm_ast.specs.declared.instructions.Instr.{Instr}
 use Rattle.wasm_ast.specs.declared.instructions.Instr.TheVariants.{Block, Loop, If}
 use Rattle.wasm_ast.specs.declared.instructions.Expr.{Expr}
-use Rattle.wasm_ast.specs.declared.types.BlockType.{BlockType}
 use Rattle.wasm_binary.specs.Faults.{Fault, byte, outside}
-use Rattle.wasm_binary.specs.Values.{Grammar, Test}
+use Rattle.wasm_binary.specs.Values.{Grammar}
 use Rattle.wasm_binary.specs.Types.{block_type}
-use Rattle.wasm_binary.specs.Instructions.{Opcode, opcode, opcode_from, Around, is_opcode, is_outside, allowed_after_FC, as_opcode, allowed, plain, Sequence, all_of, empty_sequence, WithInside, Sequences, block_of, if_of, instruction, is_last, before, after_opcode, sequence_below, expression_below, expression}
+use Rattle.wasm_binary.specs.Instructions.{Opcode, Around, is_opcode, is_outside, allowed_after_FC, as_opcode, allowed, Sequence, all_of, empty_sequence, WithInside, Sequences, block_of, if_of, instruction, is_last, before, after_opcode, sequence_below, expression}
 use Rattle.wasm_binary.proofs.GrammarLaws.{opcode_has_bytes}
-use Rattle.wasm_read.proofs.ShapeOfLists.{AreBytes, AreFew, few_of, Says}
+use Rattle.wasm_read.proofs.ShapeOfLists.{AreFew, few_of, Says}
 use Rattle.wasm_read.proofs.ShapeOfBodies.{IsLaid, none_laid, wrapped, appended, numbered}
-use Rattle.wasm_read.proofs.ShapeOfInstructions.{IsPlain, IsPlainOpcode, plain_says, or_not}
+use Rattle.wasm_read.proofs.ShapeOfInstructions.{IsPlainOpcode, plain_says, or_not}
 
 -- ---- opcodes
 

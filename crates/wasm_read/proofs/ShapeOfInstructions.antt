@@ -1,19 +1,18 @@
 -- The instructions that hold no others have their shape and name no sequences.
-use Rattle.std.proofs.Common.{◌≡◌, ◌≢◌, ℕ, zero, suc, ◌+◌, ◌-◌, ◌^◌, ◌<◌, ◌≤◌, ◌⊎◌, inl, inr, Bool, true, false, List, [], ◌∷◌, Result, Ok, Err, refl, sym, ap, subst, ◌∙◌, arith}
-use Rattle.std.specs.Prelude.{nat_le, nat_lt, ◌==◌, ◌&&◌, ◌||◌, IsTrue}
-use Rattle.std.proofs.lemmas.Bool.{eqb-true, eqb-false}
+use Rattle.std.proofs.Common.{◌≡◌, ◌≢◌, ℕ, ◌+◌, ◌-◌, ◌<◌, ◌≤◌, ◌⊎◌, inl, inr, Bool, true, false, [], Result, Ok, Err, refl, arith}
+use Rattle.std.specs.Prelude.{nat_lt, ◌==◌, ◌&&◌, ◌||◌}
+use Rattle.std.proofs.lemmas.Bool.{eqb-false}
 use Rattle.std.proofs.lemmas.Bool.Decides.{nat_tests}
-use Rattle.owi_base.specs.Forms.{Form, gives, ◌>>=◌, many, checked, any_byte, when◌form◌else◌}
 use Rattle.owi_base.proofs.UnsignedLaws.{chosen}
 use Rattle.wasm_ast.specs.Numbering.{named_by}
 use Rattle.wasm_ast.specs.Opcodes.{is_from, is_load, is_store, is_numeric}
-use Rattle.wasm_ast.specs.Shape.{IsShort, IsReference, InstrHasShape}
+use Rattle.wasm_ast.specs.Shape.{IsReference, InstrHasShape}
 use Rattle.wasm_ast.specs.declared.instructions.Instr.{Instr}
-use Rattle.wasm_ast.specs.declared.instructions.Instr.TheVariants.{Unreachable, Nop, Block, Loop, If, Br, BrIf, BrTable, Return, Call, CallIndirect, RefNull, RefIsNull, RefFunc, Discard, Select, SelectTyped, LocalGet, LocalSet, LocalTee, GlobalGet, GlobalSet, TableGet, TableSet, TableInit, ElemDrop, TableCopy, TableGrow, TableSize, TableFill, Load, Store, MemorySize, MemoryGrow, MemoryInit, DataDrop, MemoryCopy, MemoryFill, Const32, Const64, Num}
+use Rattle.wasm_ast.specs.declared.instructions.Instr.TheVariants.{Br, BrIf, Call, CallIndirect, RefFunc, LocalGet, LocalSet, LocalTee, GlobalGet, GlobalSet, TableGet, TableSet, TableInit, ElemDrop, TableCopy, TableGrow, TableSize, TableFill, Load, Store, MemorySize, MemoryGrow, MemoryInit, DataDrop, MemoryCopy, MemoryFill}
 use Rattle.wasm_binary.specs.Faults.{Fault, byte}
-use Rattle.wasm_binary.specs.Values.{Grammar, Test, u32, s32, s64, tag, vec}
-use Rattle.wasm_binary.specs.Types.{below, ref_type, val_type}
-use Rattle.wasm_binary.specs.Instructions.{Opcode, Around, is_opcode, one_index, two_indices, memory_argument, modulo, index_and_zero, zero_byte, zero_bytes, after_FC, branch_table, select_typed, null_of, constant_32, constant_64, plain}
+use Rattle.wasm_binary.specs.Values.{u32, s32, s64, tag}
+use Rattle.wasm_binary.specs.Types.{below, val_type}
+use Rattle.wasm_binary.specs.Instructions.{Opcode, Around, is_opcode, one_index, two_indices, memory_argument, index_and_zero, zero_byte, zero_bytes, after_FC, branch_table, select_typed, null_of, constant_32, constant_64, plain}
 use Rattle.wasm_read.proofs.ShapeOfLists.{Says, gives_says, then_says, any_says, checked_says, when_says, vec_says, ref_type_says, Any, AllShort}
 
 -- it names no sequence and has its shape

@@ -1,20 +1,17 @@
 -- What spellings tell of the shape of what they spell: counts and names.
-use Rattle.std.proofs.Common.{◌≡◌, ℕ, zero, suc, ◌+◌, ◌-◌, ◌^◌, ◌<◌, ◌≤◌, ◌⊎◌, inl, inr, Bool, true, false, List, [], ◌∷◌, ◌++◌, length, Result, Ok, Err, All, refl, sym, ap, subst, ◌∙◌, arith, length-append}
+use Rattle.std.proofs.Common.{◌≡◌, ℕ, zero, suc, ◌+◌, ◌-◌, ◌^◌, ◌<◌, inl, inr, Bool, true, false, List, [], ◌∷◌, ◌++◌, length, Result, Ok, Err, All, refl, sym, ap, subst, arith, length-append}
 use Rattle.std.specs.List.{AllByRecursion as ByRecursion}
 use Rattle.std.specs.Str.{is_utf8}
 use Rattle.std.specs.Prelude.{◌==◌}
 use Rattle.std.proofs.lemmas.List.Elements.{All-nil, All-cons}
 use Rattle.owi_base.specs.Leb.{SpellsUnsigned}
-use Rattle.owi_base.specs.Forms.{Form, gives, ◌>>=◌, many, checked, any_byte, when◌form◌else◌}
+use Rattle.owi_base.specs.Forms.{gives, ◌>>=◌, many, checked, any_byte, when◌form◌else◌}
 use Rattle.owi_base.proofs.UnsignedLaws.{joined_below, chosen}
 use Rattle.wasm_ast.specs.Shape.{IsShort, IsReference, FuncTypeHasShape}
 use Rattle.wasm_ast.specs.declared.types.ValType.{ValType}
 use Rattle.wasm_ast.specs.declared.types.ValType.TheVariants.{FuncRef, ExternRef}
-use Rattle.wasm_ast.specs.declared.types.FuncType.{FuncType}
-use Rattle.wasm_ast.specs.declared.types.Limits.{Limits}
-use Rattle.wasm_ast.specs.declared.types.TableType.{TableType}
 use Rattle.wasm_binary.specs.Faults.{Fault, byte, utf8}
-use Rattle.wasm_binary.specs.Values.{Grammar, Test, u32, vec, name, text_of, tag, exactly}
+use Rattle.wasm_binary.specs.Values.{Grammar, u32, vec, name, text_of, tag}
 use Rattle.wasm_binary.specs.Types.{ref_type_of, ref_type, val_type, func_type, limits, table_type}
 
 -- numbers that are bytes

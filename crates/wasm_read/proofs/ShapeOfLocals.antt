@@ -1,23 +1,21 @@
 -- The code of a function that is spelled has its shape: groups of locals are joined, and few.
-use Rattle.std.proofs.Common.{◌≡◌, ◌≢◌, ℕ, zero, suc, ◌+◌, ◌-◌, ◌^◌, ◌<◌, ◌≤◌, inl, inr, Bool, true, false, cond, List, [], ◌∷◌, length, Result, Ok, Err, All, refl, sym, ap, subst, ◌∙◌, arith, get_or}
+use Rattle.std.proofs.Common.{◌≡◌, ◌≢◌, ℕ, zero, suc, ◌+◌, ◌-◌, ◌<◌, ◌≤◌, inl, inr, Bool, true, false, cond, List, [], ◌∷◌, length, Result, Ok, Err, All, refl, sym, ap, subst, ◌∙◌, arith, get_or}
 use Rattle.std.specs.Prelude.{nat_le, ◌==◌, sum_by}
-use Rattle.std.specs.List.{AllAdjacentBelow}
 use Rattle.std.proofs.lemmas.List.Recursion.{is_sum_by}
 use Rattle.std.proofs.lemmas.List.Elements.{All-nil, All-cons, All-head, All-tail}
 use Rattle.std.proofs.lemmas.Bool.{eqb-true, eqb-false}
 use Rattle.std.proofs.lemmas.Bool.Decides.{nat_tests}
-use Rattle.owi_base.specs.Forms.{Form, gives, ◌>>=◌, checked, within}
+use Rattle.owi_base.specs.Forms.{within}
 use Rattle.owi_base.proofs.UnsignedLaws.{chosen}
-use Rattle.wasm_ast.specs.Shape.{IsShort, LocalsHaveShape, ExprHasShape}
+use Rattle.wasm_ast.specs.Shape.{LocalsHaveShape, ExprHasShape}
 use Rattle.wasm_ast.specs.declared.types.ValType.{ValType}
 use Rattle.wasm_ast.specs.declared.types.ValType.TheVariants.{I32, I64, FuncRef, ExternRef}
 use Rattle.wasm_ast.specs.declared.modules.Group.{Group}
 use Rattle.wasm_binary.specs.Faults.{Fault, size, locals}
 use Rattle.wasm_binary.specs.Values.{Grammar, u32}
 use Rattle.wasm_binary.specs.Types.{val_type}
-use Rattle.wasm_binary.specs.Instructions.{expression}
 use Rattle.wasm_binary.specs.Locals.{few, group, groups, same_kind, with_front, joined, Code, code_contents, code}
-use Rattle.wasm_read.proofs.ShapeOfLists.{AreFew, Says, gives_says, then_says, any_says, checked_says, Any}
+use Rattle.wasm_read.proofs.ShapeOfLists.{Says, gives_says, then_says, any_says, checked_says, Any}
 use Rattle.wasm_read.proofs.ShapeOfExpressions.{expression_says}
 
 -- how many locals there are

@@ -1,36 +1,32 @@
 -- A module that is spelled has its shape, but for how many custom sections it has: no number in the bytes bounds them.
 use Rattle.std.proofs.Common.{◌≡◌, ◌≢◌, ℕ, zero, suc, ◌+◌, ◌-◌, ◌^◌, ◌<◌, ◌≤◌, ◌⊎◌, inl, inr, Bool, true, false, cond, List, [], ◌∷◌, ◌++◌, length, map, Option, Some, None, Result, Ok, Err, All, refl, sym, ap, subst, ◌∙◌, arith, get_or}
-use Rattle.std.specs.Prelude.{nat_le, nat_lt, ◌==◌, ◌||◌, IsTrue, is_some}
+use Rattle.std.specs.Prelude.{nat_le, nat_lt, ◌==◌, ◌||◌, is_some}
 use Rattle.std.specs.List.Sorted.{IsNonDecreasingBy}
 use Rattle.std.proofs.lemmas.List.{length-map, get_or-map}
 use Rattle.std.proofs.lemmas.List.Elements.{All-nil, All-cons, All-head, All-tail, All-push, All-weaker, All-map, All-get_or}
 use Rattle.std.proofs.lemmas.List.Sorted.{IsNonDecreasingBy-push}
-use Rattle.std.proofs.lemmas.Bool.{eqb-true, eqb-false, cases_lt, cases_eq, ne_eqb}
+use Rattle.std.proofs.lemmas.Bool.{eqb-true, eqb-false, cases_eq, ne_eqb}
 use Rattle.std.proofs.lemmas.Bool.Decides.{nat_tests}
-use Rattle.owi_base.specs.Forms.{Form, gives, ◌>>=◌, any_byte, checked, many, measured, within, when◌form◌else◌}
+use Rattle.owi_base.specs.Forms.{any_byte, checked, measured, within, when◌form◌else◌}
 use Rattle.owi_base.proofs.UnsignedLaws.{chosen}
 use Rattle.owi_base.proofs.SignedReading.{taken, passed}
 use Rattle.wasm_ast.specs.Sections.{is_written}
-use Rattle.wasm_ast.specs.Shape.{IsShort, IsReference, FuncTypeHasShape, InstrHasShape, SeqHasShape, ExprHasShape, KindHasShape, ImportHasShape, FuncHasShape, ModeHasShape, ElemHasShape, SegmentHasShape, CustomHasShape, CustomsHaveShape, ListsAreShort, HasShape}
-use Rattle.wasm_ast.specs.declared.types.ValType.{ValType}
-use Rattle.wasm_ast.specs.declared.types.ValType.TheVariants.{FuncRef}
+use Rattle.wasm_ast.specs.Shape.{IsShort, IsReference, FuncTypeHasShape, InstrHasShape, SeqHasShape, ExprHasShape, KindHasShape, ImportHasShape, FuncHasShape, ModeHasShape, ElemHasShape, SegmentHasShape, CustomHasShape, HasShape}
 use Rattle.wasm_ast.specs.declared.types.TableType.{TableType}
 use Rattle.wasm_ast.specs.declared.instructions.Instr.TheVariants.{RefFunc}
-use Rattle.wasm_ast.specs.declared.instructions.Expr.{Expr}
-use Rattle.wasm_ast.specs.declared.modules.Func.{Func}
 use Rattle.wasm_ast.specs.declared.modules.GlobalDef.{GlobalDef}
 use Rattle.wasm_ast.specs.declared.modules.Export.{Export}
 use Rattle.wasm_ast.specs.declared.modules.Mode.{Mode}
-use Rattle.wasm_ast.specs.declared.modules.Mode.TheVariants.{Passive, Declared, Active}
+use Rattle.wasm_ast.specs.declared.modules.Mode.TheVariants.{Declared}
 use Rattle.wasm_ast.specs.declared.modules.Custom.{Custom}
 use Rattle.wasm_ast.specs.declared.modules.Module.{Module}
-use Rattle.wasm_binary.specs.Faults.{Fault, byte, order, size, count}
+use Rattle.wasm_binary.specs.Faults.{Fault, byte, order, count}
 use Rattle.wasm_binary.specs.Values.{Grammar, u32, vec, name, tag}
 use Rattle.wasm_binary.specs.Types.{func_type, limits, table_type, global_type, one_of}
 use Rattle.wasm_binary.specs.Parts.{constant, import_kind, import, global, export, flag_below, active_on, active, elem_mode, elem_kind, func_item, elem, data_mode, segment}
 use Rattle.wasm_binary.specs.Locals.{Code, code}
-use Rattle.wasm_binary.specs.Modules.{Sections, no_sections, slot_of, next_id, same_count, same_as_announced, custom, code_section, data_section, into, contents, sized_contents, section, front, sections, front_and_sections, funcs_of, without_customs, last_written, settled, module_of, HaveTheirCounts, IsBinary}
-use Rattle.wasm_read.proofs.ShapeOfLists.{AreBytes, AreFew, bytes_of, few_of, Says, gives_says, then_says, any_says, checked_says, when_says, Any, AllShort, IsU32, u32_small, u32_says, AreMany, many_says, vec_says, name_says, ref_type_says, table_type_says, func_type_says}
+use Rattle.wasm_binary.specs.Modules.{Sections, no_sections, slot_of, next_id, same_count, same_as_announced, custom, code_section, data_section, into, contents, section, sections, funcs_of, without_customs, last_written, settled, module_of, IsBinary}
+use Rattle.wasm_read.proofs.ShapeOfLists.{AreBytes, AreFew, bytes_of, Says, gives_says, then_says, any_says, checked_says, when_says, Any, AllShort, IsU32, u32_small, u32_says, AreMany, many_says, vec_says, name_says, ref_type_says, table_type_says, func_type_says}
 use Rattle.wasm_read.proofs.ShapeOfBodies.{none_laid, numbered}
 use Rattle.wasm_read.proofs.ShapeOfExpressions.{expression_says}
 use Rattle.wasm_read.proofs.ShapeOfLocals.{CodeHasShape, code_says}

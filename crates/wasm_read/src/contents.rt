@@ -1,5 +1,5 @@
 // The contents of a section, by its id (Binary Format, Modules: Sections).
-ghost use Rattle.std.specs.Prelude.{◌≡◌, ◌≤◌, [], ◌∷◌, ◌++◌, length, IfOk, Some};
+ghost use Rattle.std.specs.Prelude.{◌≤◌, [], ◌∷◌, ◌++◌, length, IfOk, Some};
 ghost use Rattle.wasm_binary.specs.Types.{func_type, table_type, limits};
 ghost use Rattle.wasm_binary.specs.Parts.{import as import_form, global as global_form, export as export_form, elem as elem_form};
 ghost use Rattle.wasm_binary.specs.Values.{u32 as u32_form, vec};

@@ -1,5 +1,5 @@
 // The counts at the end of all sections (Binary Format, Modules).
-ghost use Rattle.std.specs.Prelude.{◌≡◌, length, MatchResult, IfSome, Ok, Err};
+ghost use Rattle.std.specs.Prelude.{◌≡◌, MatchResult, IfSome, Ok, Err};
 ghost use Rattle.wasm_binary.specs.Modules.{module_of as module_by};
 ghost use Rattle.wasm_binary.specs.Reading.{counted, segments_counted};
 ghost use Rattle.wasm_read.specs.Refusals.{fault_of};

@@ -1,5 +1,5 @@
 // Custom sections (Binary Format, Modules: Custom Section).
-ghost use Rattle.std.specs.Prelude.{◌≡◌, ◌≤◌, length, IfOk};
+ghost use Rattle.std.specs.Prelude.{◌≤◌, length, IfOk};
 ghost use Rattle.wasm_binary.specs.Modules.{custom as custom_form};
 ghost use Rattle.wasm_read.specs.Views.{Tells};
 

@@ -1,5 +1,5 @@
 // Vectors (Binary Format, Conventions: Vectors).
-ghost use Rattle.std.specs.Prelude.{◌≡◌, ◌≤◌, length, IfOk};
+ghost use Rattle.std.specs.Prelude.{◌≤◌, length, IfOk};
 ghost use Rattle.owi_base.specs.Forms.{many};
 ghost use Rattle.wasm_binary.specs.Values.{vec};
 ghost use Rattle.wasm_read.specs.Views.{Tells};

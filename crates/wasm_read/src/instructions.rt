@@ -1,7 +1,7 @@
 // Instructions that hold no others (Binary Format, Instructions).
 #![tactic(auto, unfolding(wasm_binary::specs::Instructions::plain))]
 
-ghost use Rattle.std.specs.Prelude.{◌≡◌, ◌≢◌, ◌≤◌, length, IfOk, IsTrue};
+ghost use Rattle.std.specs.Prelude.{◌≡◌, ◌≤◌, length, IfOk};
 ghost use Rattle.owi_base.specs.Forms.{checked};
 ghost use Rattle.wasm_ast.specs.Opcodes.{is_from as is_from_byte};
 ghost use Rattle.wasm_binary.specs.Values.{u32 as u32_form};

@@ -1,5 +1,5 @@
 // Texts and runs of bytes (Binary Format, Values: Names; Conventions: Vectors).
-ghost use Rattle.std.specs.Prelude.{◌≡◌, ℕ, ◌+◌, ◌≤◌, length, IfOk, IfErr, IfSome, Ok, Err};
+ghost use Rattle.std.specs.Prelude.{◌≡◌, ◌+◌, ◌≤◌, length, IfOk, IfErr, IfSome, Ok, Err};
 ghost use Rattle.owi_base.specs.Forms.{any_byte, many};
 ghost use Rattle.wasm_binary.specs.Values.{name, vec};
 ghost use Rattle.wasm_read.specs.Refusals.{fault_of};

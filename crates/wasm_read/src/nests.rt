@@ -1,5 +1,5 @@
 // The sequences that are open while an expression is read.
-ghost use Rattle.std.specs.Prelude.{◌≡◌, length, IfOk, OnOk, IfErr};
+ghost use Rattle.std.specs.Prelude.{◌≡◌, IfOk, OnOk, IfErr};
 ghost use Rattle.wasm_read.specs.Nests.{IsNest, first_nest, pushed, opened, ended_first, closed_in, closed, is_alone, in_if};
 
 use crate::bad::ReadBad;

@@ -1,5 +1,5 @@
 // Bytes and numbers (Binary Format, Values).
-ghost use Rattle.std.specs.Prelude.{◌≡◌, ℕ, ◌+◌, ◌<◌, ◌≤◌, length, drop, IfOk, Some, Ok, Err};
+ghost use Rattle.std.specs.Prelude.{◌≡◌, ◌+◌, ◌<◌, ◌≤◌, length, IfOk, Some, Ok, Err};
 ghost use Rattle.owi_base.specs.Forms.{any_byte, said};
 ghost use Rattle.wasm_binary.specs.Faults.{leb};
 ghost use Rattle.owi_base.specs.Leb.{HasBits};

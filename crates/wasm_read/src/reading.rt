@@ -1,6 +1,6 @@
 // All sections, one after another (Binary Format, Modules).
 ghost use Rattle.std.specs.Prelude.{◌≡◌, suc, ◌^◌, ◌<◌, ◌≤◌, length, IfOk, IfErr, IfSome, Ok, Err};
-ghost use Rattle.wasm_binary.specs.Modules.{Sections as AllSections, no_sections, front, fixed_byte, module_of as module_by};
+ghost use Rattle.wasm_binary.specs.Modules.{no_sections, front, fixed_byte, module_of as module_by};
 ghost use Rattle.wasm_binary.specs.Reading.{read_binary, read_sections as read_all_sections};
 ghost use Rattle.owi_base.specs.Forms.{any_byte, checked};
 ghost use Rattle.wasm_read.specs.Refusals.{fault_of};

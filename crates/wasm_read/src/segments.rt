@@ -1,5 +1,5 @@
 // Element and data segments (Binary Format, Modules: Element Section, Data Section).
-ghost use Rattle.std.specs.Prelude.{◌≡◌, ◌≤◌, length, IfOk, nat_lt};
+ghost use Rattle.std.specs.Prelude.{◌≤◌, length, IfOk};
 ghost use Rattle.owi_base.specs.Forms.{when◌form◌else◌};
 ghost use Rattle.wasm_binary.specs.Values.{vec};
 ghost use Rattle.wasm_binary.specs.Parts.{constant, flag_below, active_on, active, elem_mode, elem_kind, elem_kind_byte, func_item, elem as elem_form, data_mode, segment as segment_form};

@@ -1,6 +1,6 @@
 // The entries of the sections of types, tables and memories (Binary Format, Modules: Type Section, Table Section, Memory
 // Section).
-ghost use Rattle.std.specs.Prelude.{◌≡◌, ◌≤◌, length, IfOk};
+ghost use Rattle.std.specs.Prelude.{◌≤◌, length, IfOk};
 ghost use Rattle.wasm_binary.specs.Types.{func_type};
 ghost use Rattle.wasm_read.specs.Views.{Tells};
 

@@ -1,5 +1,5 @@
 // Types (Binary Format, Types).
-ghost use Rattle.std.specs.Prelude.{◌≡◌, ℕ, ◌+◌, ◌<◌, ◌≤◌, length, drop, IfOk, Some, Ok, Err};
+ghost use Rattle.std.specs.Prelude.{◌<◌, ◌≤◌, length, IfOk, Some, Ok, Err};
 ghost use Rattle.owi_base.specs.Forms.{any_byte, checked};
 ghost use Rattle.wasm_binary.specs.Values.{s33};
 ghost use Rattle.wasm_binary.specs.Types.{ref_type, val_type, one_of, maximum, limits, table_type, global_type, block_type, short_block_type, type_index};

@@ -21,6 +21,7 @@ use Rattle.wasm_rules.specs.declared.accesses.Access.{Access}
 use Rattle.wasm_rules.specs.Words.{Kind, Gives, CanJoin, bits_where}
 use Rattle.wasm_rules.specs.Accesses.{load_of, store_of, extended, accessed, lowest_bytes}
 use Rattle.wasm_rules.proofs.AccessLemmas.{KeepsWidth, IsRow, load_row, store_row}
+use Rattle.wasm_rules.proofs.StoredLemmas.{count_small}
 use Rattle.wasm_reduction.specs.Configurations.{Reference, FuncRef, ExternRef, Value, I32, I64, Ref, Label, Frame, Config, Next, Goes, Ends, Returns}
 use Rattle.wasm_check.specs.Trees.{seq_of}
 use Rattle.wasm_image.specs.declared.hosts.Host.{Host}
@@ -36,7 +37,7 @@ use Rattle.wasm_reduction.specs.Steps.{act, step, step_code}
 use Rattle.wasm_reduction.specs.Images.{value_image, values_image, label_image, frame_image, config_image, next_image}
 use Rattle.wasm_reduction.specs.Maps.{ValueHas, ValuesHave, InRange, NextInRange, IsWide, KeepsOperations}
 use Rattle.wasm_reduction.proofs.WordWidths.{IsBinary, IsUnary, ne, and, eq32, eq64, eqz32, eqz64, binary-has}
-use Rattle.wasm_reduction.proofs.WideParts.{bits-of-wide, joins-few, each-get, has-some, part-length, part-all}
+use Rattle.wasm_reduction.proofs.WideParts.{bits-of-wide, each-get, has-some, part-length, part-all}
 use Rattle.wasm_reduction.proofs.MapLemmas.{map-replicate, map-reverse, map-written, map-part, found-image, last-image, testing-image, trapping-image, assuming-image, value-image, word-image, reference-image, copy-image, binary-image, unary-image, indexing-image, addressing-image, filling-image, copying-image, growing-image, numbers-image, lowest-image, locals-image}
 
 pub valued-image : {V W : Type 0} (h : V → W) (wide : Bool) (w : V) → valued wide (h w) ≡ value_image h (valued wide w)
@@ -254,14 +255,14 @@ module _ {V W : Type 0} (Has : ℕ → V → Type 0) (h : V → W) (K : Kind V) 
       filling-image Has h K L g k Table to count (length elements) ns _ _ a d (let small : length elements < 2 ^ 32 = each-get _ c.store.tables x elements ts e in omega (arith, small)) (λ t n. refl)))))
   act-image vs ns (Load op align offset) p me ms ts es ds r = rw (length-map c.store.memory h) (found-image h (load_of op) _ _ (λ access e. word-image Has h false vs _ _ p (λ address rest q p.
       let row : IsRow access = load_row op access (sym e) in
-      let few : access.bytes ≤ 8 = joins-few access.wide access.bytes row.count in
+      let few : access.bytes ≤ 8 = count_small access.wide access.bytes row.count in
       addressing-image Has h K L g k Memory address (offset + access.bytes) (length c.store.memory) ns _ _ q (omega (arith, few, r)) ms (λ at l.
       ap (λ bytes. Goes (holding C (valued access.wide (accessed L access bytes) ∷ values_image h rest))) (map-part h (at + offset) access.bytes c.store.memory)
       ∙ word-value access.wide rest (accessed K access (part (at + offset) access.bytes c.store.memory)) (accessed L access (map h (part (at + offset) access.bytes c.store.memory)))
       (accessed-image access (part (at + offset) access.bytes c.store.memory) row (part-length (at + offset) access.bytes c.store.memory (omega (arith, l))) (part-all (Has 8) (at + offset) access.bytes c.store.memory me))))))
   act-image vs ns (StoreInstr op align offset) p me ms ts es ds r = rw (length-map c.store.memory h) (found-image h (store_of op) _ _ (λ access e. word-image Has h access.wide vs _ _ p (λ w rest b p. word-image Has h false rest _ _ p (λ address rest q p.
       let row : IsRow access = store_row op access (sym e) in
-      let few : access.bytes ≤ 8 = joins-few access.wide access.bytes row.count in
+      let few : access.bytes ≤ 8 = count_small access.wide access.bytes row.count in
       addressing-image Has h K L g k Memory address (offset + access.bytes) (length c.store.memory) ns _ _ q (omega (arith, few, r)) ms (λ at l.
       writing-image rest (at + offset) (lowest_bytes K access.bytes w) (lowest_bytes L access.bytes (h w)) (lowest-image Has h K L g k access.bytes w few (has-some Has access.wide w b)))))))
   act-image vs ns MemorySize p me ms ts es ds r = rw (length-map c.store.memory h) (number-value vs (length c.store.memory / page_bytes))

@@ -14,7 +14,7 @@ use Rattle.int_ops.specs.declared.operators.Width.{Width}
 use Rattle.int_ops.specs.declared.operators.Width.TheVariants.{W32, W64}
 use Rattle.int_ops.specs.Integers.{minus_one}
 use Rattle.int_ops.specs.Operators.{bits_of}
-use Rattle.wasm_rules.specs.Words.{Kind, Gives, HasSome, CanJoin, bits_where}
+use Rattle.wasm_rules.specs.Words.{Kind, Gives, HasSome, bits_where}
 use Rattle.wasm_rules.specs.Accesses.{lowest_bytes}
 use Rattle.wasm_reduction.specs.Configurations.{Reference, Value, I32, I64, Ref, Config, Next, Ends, Stuck, Traps}
 use Rattle.wasm_reduction.specs.Functions.{default, first_locals}
@@ -246,9 +246,6 @@ module _ {W : Type 0} (Has : ℕ → W → Type 0) where
 pub bits-of-wide : (width : Width) → bits_of width ≡ bits_where (is_wide width)
 bits-of-wide W32 = refl
 bits-of-wide W64 = refl
-
-pub joins-few : (wide : Bool) (n : ℕ) → CanJoin wide n → n ≤ 8
-joins-few wide n q = elim q [ inl e ↦ omega (arith, e) | inr q ↦ elim q [ inl e ↦ omega (arith, e) | inr q ↦ elim q [ inl e ↦ omega (arith, e) | inr e ↦ omega (arith, e.0) ] ] ]
 
 -- ---- sizes
 

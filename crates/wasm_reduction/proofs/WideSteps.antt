@@ -23,6 +23,7 @@ use Rattle.wasm_rules.specs.declared.accesses.Access.{Access}
 use Rattle.wasm_rules.specs.Words.{Kind, Gives, CanJoin, bits_where}
 use Rattle.wasm_rules.specs.Accesses.{load_of, store_of, extended, accessed, lowest_bytes}
 use Rattle.wasm_rules.proofs.AccessLemmas.{KeepsWidth, IsRow, load_row, store_row}
+use Rattle.wasm_rules.proofs.StoredLemmas.{count_small}
 use Rattle.wasm_check.specs.Trees.{seq_of}
 use Rattle.wasm_image.specs.declared.hosts.Host.{Host}
 use Rattle.wasm_image.specs.declared.hosts.Host.TheVariants.{SymbolI32, SymbolI64, Assume, Assert}
@@ -40,7 +41,7 @@ use Rattle.wasm_reduction.specs.Steps.{act, step, step_code, answered, with_symb
 use Rattle.wasm_reduction.specs.Maps.{ValueHas, ValuesHave, InRange, NextInRange, IsWide}
 use Rattle.wasm_reduction.specs.Widths.{IsMemorySize, AreBytes, StoreHasWidths, LabelHasWidths, FrameHasWidths, HasWidths, NextHasWidths}
 use Rattle.wasm_reduction.proofs.WordWidths.{IsBinary, IsUnary, ne, and, eq32, eq64, eqz32, eqz64, binary-has, unary-has}
-use Rattle.wasm_reduction.proofs.WideParts.{bits-of-wide, joins-few, each-get, each-set, each-append, each-drop, part-length, written-length, written-all, part-all, have-append, have-reverse, have-get, have-set, valued-has, has-some, found-wide, value-wide, word-wide, reference-wide, copy-wide, last-wide, testing-wide, trapping-wide, assuming-wide, indexing-wide, addressing-wide, filling-wide, copying-wide, growing-wide, lowest-wide, lowest-length, numbers-wide, locals-have, limit-most, memory-small}
+use Rattle.wasm_reduction.proofs.WideParts.{bits-of-wide, each-get, each-set, each-append, each-drop, part-length, written-length, written-all, part-all, have-append, have-reverse, have-get, have-set, valued-has, has-some, found-wide, value-wide, word-wide, reference-wide, copy-wide, last-wide, testing-wide, trapping-wide, assuming-wide, indexing-wide, addressing-wide, filling-wide, copying-wide, growing-wide, lowest-wide, lowest-length, numbers-wide, locals-have, limit-most, memory-small}
 
 abbrev InRangeAll : List Instr → Type 0
 InRangeAll is = AllByRecursion InRange is
@@ -343,12 +344,12 @@ module _ {W : Type 0} (Has : ℕ → W → Type 0) (K : Kind W) (g : Gives K Has
       writes-table rest p x t n (replicate n reference) elements (table-small x elements e) (length-replicate n reference) l)))))
   act-wide vs ns (Load op align offset) p r = found-wide Has (load_of op) _ (λ access e. word-wide Has false vs _ p (λ address rest q p.
       let row : IsRow access = load_row op access (sym e) in
-      let few : access.bytes ≤ 8 = joins-few access.wide access.bytes row.count in
+      let few : access.bytes ≤ 8 = count_small access.wide access.bytes row.count in
       addressing-wide Has K g Memory address (offset + access.bytes) (length c.store.memory) ns _ q (omega (arith, few, r)) (omega (arith, small)) (λ at l.
       holds c w _ (valued-has Has access.wide _ (accessed-has access (part (at + offset) access.bytes c.store.memory) row (part-length (at + offset) access.bytes c.store.memory (omega (arith, l))) (part-all (Has 8) (at + offset) access.bytes c.store.memory w.store.memory)), p))))
   act-wide vs ns (StoreInstr op align offset) p r = found-wide Has (store_of op) _ (λ access e. word-wide Has access.wide vs _ p (λ x rest b p. word-wide Has false rest _ p (λ address rest q p.
       let row : IsRow access = store_row op access (sym e) in
-      let few : access.bytes ≤ 8 = joins-few access.wide access.bytes row.count in
+      let few : access.bytes ≤ 8 = count_small access.wide access.bytes row.count in
       addressing-wide Has K g Memory address (offset + access.bytes) (length c.store.memory) ns _ q (omega (arith, few, r)) (omega (arith, small)) (λ at l.
       writes rest p (at + offset) access.bytes (lowest_bytes K access.bytes x) (lowest-wide Has K g access.bytes x few (has-some Has access.wide x b)) (lowest-length Has K g access.bytes x) (omega (arith, l))))))
   act-wide vs ns MemorySize p r = number-wide vs (length c.store.memory / page_bytes) p (omega (arith, small))

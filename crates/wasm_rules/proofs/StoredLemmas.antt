@@ -6,8 +6,13 @@ use Rattle.int_ops.specs.Bytes.{byte_of}
 use Rattle.wasm_rules.specs.Words.{Kind, Kept, numbers, CanJoin}
 use Rattle.wasm_rules.specs.Accesses.{lowest_bytes}
 
+-- as many bytes as can be joined to a word
 pub count_small : (wide : Bool) (count : ℕ) → CanJoin wide count → count ≤ 8
 count_small wide count h =
+    ⊎_elim (λ e. omega (arith, e)) (⊎_elim (λ e. omega (arith, e)) (⊎_elim (λ e. omega (arith, e)) (λ e. omega (arith, e.0)))) h
+
+pub count_some : (wide : Bool) (count : ℕ) → CanJoin wide count → 0 < count
+count_some wide count h =
     ⊎_elim (λ e. omega (arith, e)) (⊎_elim (λ e. omega (arith, e)) (⊎_elim (λ e. omega (arith, e)) (λ e. omega (arith, e.0)))) h
 
 module _ {A W M : Type 0} (holds : A → W → Type 0) (means : A → W → M) (Has : ℕ → M → Type 0) (value : List ℕ → M → ℕ) (K : Kind M) where

@@ -1,15 +1,12 @@
 -- How many bytes loads and stores take.
-use Rattle.std.proofs.Common.{◌≡◌, ℕ, zero, suc, ◌+◌, ◌≤◌, ◌<◌, Bool, ⊎_elim, Option, Some, None, IsSome, List, ◌∷◌, [], length, refl, sym, ap, ◌∙◌, arith}
+use Rattle.std.proofs.Common.{◌≡◌, ℕ, zero, suc, ◌+◌, ◌≤◌, ◌<◌, Option, Some, None, IsSome, length, refl, ap, ◌∙◌, arith}
 use Rattle.std.proofs.lemmas.List.{length_push}
 use Rattle.int_ops.specs.Bytes.{byte_of}
 use Rattle.wasm_rules.specs.declared.accesses.Access.{Access}
-use Rattle.wasm_rules.specs.Words.{numbers, CanJoin}
+use Rattle.wasm_rules.specs.Words.{numbers}
 use Rattle.wasm_rules.specs.Accesses.{load_of, store_of, load_bytes, store_bytes, lowest_bytes, stored}
 use Rattle.wasm_rules.proofs.AccessLemmas.{load_row, load_bytes-is, store_row, store_bytes-is}
-use Rattle.wasm_rules.proofs.StoredLemmas.{count_small}
-
-count_some : (wide : Bool) (count : ℕ) → CanJoin wide count → 0 < count
-count_some wide count h = ⊎_elim (λ e. omega (arith, e)) (⊎_elim (λ e. omega (arith, e)) (⊎_elim (λ e. omega (arith, e)) (λ e. omega (arith, e.0)))) h
+use Rattle.wasm_rules.proofs.StoredLemmas.{count_small, count_some}
 
 module _ (op : ℕ) where
   load_size : (o : Option Access) → o ≡ load_of op → IsSome o → (0 < load_bytes op) × (load_bytes op ≤ 8)

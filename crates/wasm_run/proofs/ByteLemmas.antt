@@ -1,5 +1,5 @@
 -- Numbers as bytes of a memory.
-use Rattle.std.proofs.Common.{◌≡◌, ℕ, zero, suc, ◌+◌, ◌*◌, ◌/◌, ◌%◌, ◌^◌, ◌≤◌, ◌<◌, List, [], ◌∷◌, ◌++◌, length, take, drop, set, get_or, refl, sym, ap, ap₂, ◌∙◌, arith, All}
+use Rattle.std.proofs.Common.{◌≡◌, ℕ, zero, suc, ◌+◌, ◌*◌, ◌/◌, ◌%◌, ◌^◌, ◌≤◌, ◌<◌, List, [], ◌∷◌, ◌++◌, length, take, refl, sym, ap, ap₂, ◌∙◌, arith, All}
 use Rattle.std.proofs.lemmas.List.Elements.{All-push, All-nil}
 use Rattle.std.specs.Int.{bytes_low_first}
 use Rattle.int_ops.specs.Bytes.{joined, byte_of}

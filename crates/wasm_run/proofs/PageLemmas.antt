@@ -1,17 +1,16 @@
 -- Pages side by side.
-use Rattle.std.proofs.Common.{◌≡◌, ℕ, zero, suc, ◌+◌, ◌*◌, ◌≤◌, ◌<◌, List, [], ◌∷◌, ◌++◌, length, take, drop, map, set, get_or, Some, slice_get, Bool, true, false, unwrap_or, ◌/◌, ◌%◌, ◌-◌, ◌⊎◌, replicate, subst, refl, sym, ap, ap₂, ◌∙◌, arith, length-append}
+use Rattle.std.proofs.Common.{◌≡◌, ℕ, zero, suc, ◌+◌, ◌*◌, ◌≤◌, ◌<◌, List, [], ◌∷◌, ◌++◌, length, take, drop, set, get_or, Some, slice_get, true, ◌/◌, ◌%◌, ◌-◌, replicate, subst, refl, sym, ap, ap₂, ◌∙◌, arith, length-append}
 use Rattle.std.specs.List.{AllByRecursion, flat_map}
-use Rattle.std.proofs.lemmas.List.{length-set, length-map, map-set, set-get_or, get_or-map, append_assoc, drop-drop, drop_all, drop-take, take-append-drop, take-take, length-take, length-take-le, length-drop, length-replicate, take-replicate, drop-replicate, replicate-append-replicate, append-nil}
+use Rattle.std.proofs.lemmas.List.{append_assoc, drop-drop, drop_all, take-take, length-take, length-take-le, length-drop, length-replicate, take-replicate, drop-replicate, replicate-append-replicate, append-nil}
 use Rattle.std.proofs.lemmas.Grind.{flat_map-append}
 use Rattle.wasm_run.proofs.ZeroLemmas.{zeros-are, zeros-length, page-with, held-block}
 use Rattle.std.proofs.lemmas.Slice.{take-put_mid}
 use borrow.Rule.Slice.PartMut.{put_mid, post_of}
-use Rattle.std.proofs.lemmas.Option.{slice_get-get_or}
 use Rattle.wasm_reduction.specs.Combinators.{written, part}
 use Rattle.wasm_reduction.specs.Memories.{page_bytes}
 use Rattle.wasm_run.specs.Pages.{Page, fresh, page_of, AreWhole, AreHeld, Writes, cells_of, held_of}
 use Rattle.wasm_run.proofs.WrittenLemmas.{written-left, written-right, written-past, written-before, part-left, part-right, part-past, part-before, part-more, take_piece}
-use Rattle.wasm_machine.proofs.CellLemmas.{length-written, written-nothing}
+use Rattle.wasm_machine.proofs.CellLemmas.{length-written}
 
 module _ {P : Type 0} (f : P → List ℕ) (n : ℕ) where
   abbrev pub Whole : List P → Type 0
@@ -135,21 +134,7 @@ pub held-in : (ps : List Page) (at count place : ℕ) (d : Page) → AreHeld (he
 held-in ps at count place d h from to =
     held-at ps (place / page_bytes) d (h.each (place / page_bytes) (omega (arith, from, to)) (omega (arith, from)) (omega (arith, to)))
 
-pub held-less : (held : List Bool) (at count from n : ℕ) → AreHeld held at count → at ≤ from → from + n ≤ at + count → AreHeld held from n
-held-less held at count from n h low high = record { each = λ k some above below. h.each k (omega (arith, some, low, high)) (omega (arith, above, low)) (omega (arith, below, high)) }
-
 -- ---- pages that are written
-
--- nothing is written yet
-pub nothing-written : (ps : List Page) (at : ℕ) → AreWhole ps → Writes ps at [] ps
-nothing-written ps at w = record {
-  cells = sym (written-nothing at (cells_of ps));
-  whole = w;
-  held = refl;
-}
-
-pub long-of : (old new : List Page) (at : ℕ) (xs : List ℕ) → Writes old at xs new → length new ≡ length old
-long-of old new at xs h = sym (length-map new (λ p. p.held)) ∙ ap (λ l. length l) h.held ∙ length-map old (λ p. p.held)
 
 -- one piece more is written, in a page
 pub page-written : (old now : List Page) (at done count : ℕ) (xs piece : List ℕ) (d page : Page)
@@ -269,12 +254,6 @@ page-same old first k now d page below same so_far = (
   whole-set bytes_in page_bytes now k page so_far.whole (ap (λ l. length l) same ∙ whole-get bytes_in page_bytes now k d so_far.whole below),
 )
 
-pub none-held : (ps : List Page) (first : ℕ) → AreWhole ps → HeldSoFar ps first first ps
-none-held ps first w = record { same = refl; whole = w; each = λ j from to. absurd (omega (arith, from, to)) }
-
-pub all-held : (old : List Page) (at count : ℕ) (now : List Page) (k : ℕ) → ((at + count) - 1) / page_bytes < k → HeldSoFar old (at / page_bytes) k now → AreHeld (held_of now) at count
-all-held old at count now k to so_far = record { each = λ j some above below. so_far.each j (omega (arith, above)) (omega (arith, some, below, to)) }
-
 -- ---- copies
 
 -- one piece more is copied, from the front on
@@ -326,16 +305,9 @@ copied-down old mid now to from left piece count sound within low more so_far ne
       held = next.held ∙ so_far.held;
     }
 
--- nothing is copied yet
-pub none-copied : (old : List Page) (at from : ℕ) → AreWhole old → Writes old at (part from 0 (cells_of old)) old
-none-copied old at from w = nothing-written old at w
-
 pub long-read : (ps : List Page) (at count : ℕ) (new : List ℕ) → AreWhole ps → at + count ≤ page_bytes * length ps → new ≡ part at count (cells_of ps) → length new ≡ count
 long-read ps at count new w within is =
     ap (λ l. length l) is ∙ length-take-le count (drop at (cells_of ps)) (omega (arith, within, cells_long ps w, length-drop at (cells_of ps)))
-
-pub piece-is : (mid now : List Page) (to from m n : ℕ) → m ≡ n → Writes mid to (part from m (cells_of mid)) now → Writes mid to (part from n (cells_of mid)) now
-piece-is mid now to from m n same h = subst (λ k. Writes mid to (part from k (cells_of mid)) now) same h
 
 -- ---- a whole memory
 

@@ -1,6 +1,6 @@
 -- What holds wherever a run has come to.
 use Rattle.std.proofs.Common.{◌≡◌, ◌≢◌, ℕ, zero, suc, ◌+◌, ◌<◌, ◌≤◌, ◌^◌, List, [], ◌∷◌, ◌++◌, length, refl, sym, ap, ◌∙◌, subst, arith}
-use Rattle.std.specs.Prelude.{IsTrue, Bool, true, false, ◌&&◌, nat_lt, nat_le, if◌then◌else◌, All, Some, None, option_map, Result, Ok, Err}
+use Rattle.std.specs.Prelude.{IsTrue, Bool, true, false, ◌&&◌, nat_lt, nat_le, if◌then◌else◌, All, Some, option_map, Result, Ok, Err}
 use Rattle.std.proofs.lemmas.Bool.Decides.{nat_tests}
 use Rattle.std.proofs.lemmas.List.{length-append}
 use Rattle.std.specs.List.{AllByRecursion}
@@ -9,7 +9,6 @@ use Rattle.wasm_ast.specs.declared.types.Limits.{Limits}
 use Rattle.wasm_ast.specs.declared.instructions.Instr.{Instr}
 use Rattle.wasm_ast.specs.declared.modules.Module.{Module}
 use Rattle.wasm_ast.specs.declared.runs.Value.{Value as Argument}
-use Rattle.wasm_ast.specs.declared.runs.Value.TheVariants.{I32 as I32Argument, I64 as I64Argument, Func as FuncArgument, Extern as ExternArgument}
 use Rattle.wasm_ast.specs.declared.runs.Draw.{Draw}
 use Rattle.wasm_ast.specs.declared.runs.Outcome.{Outcome}
 use Rattle.wasm_rules.specs.Words.{numbers, taken, HasNumber, bits_where}

@@ -7,7 +7,7 @@ use Rattle.wasm_ast.specs.declared.instructions.Instr.{Instr}
 use Rattle.wasm_ast.specs.declared.modules.Module.{Module}
 use Rattle.wasm_reduction.specs.Configurations.{Value, Frame}
 use Rattle.wasm_reduction.specs.Combinators.{valued as valued_in}
-use Rattle.wasm_reduction.specs.Steps.{step, answered, with_symbol}
+use Rattle.wasm_reduction.specs.Steps.{step, with_symbol}
 use Rattle.wasm_reduction.specs.Runs.{is_due, most_frames}
 use Rattle.wasm_machine.specs.declared.machine.Label.{Label as CodeLabel}
 use Rattle.wasm_machine.specs.declared.machine.Frame.{Frame as CodeFrame}
@@ -43,10 +43,6 @@ frames-count m entry (p ∷ ps) labels ops locals = ap suc (frames-count m entry
 pub depth-is : (m : Module) (bytes : List ℕ) (s : State (CodeValue ℕ)) → length (config_at m bytes s).callers ≡ length s.callers
 depth-is m bytes s = frames-count m s.entry (reverse s.callers) _ _ _ ∙ length-reverse s.callers
 
--- the next instruction's question has had an answer
-pub noted-is : (m : Module) (bytes : List ℕ) (s : State (CodeValue ℕ)) (n : ℕ) → config_at m bytes (noted n s) ≡ answered (config_at m bytes s) n
-noted-is m bytes s n = refl
-
 valued-is : (wide : Bool) (w : ℕ) → value (λ n. n) (valued wide w) ≡ valued_in wide w
 valued-is true w = refl
 valued-is false w = refl
@@ -68,11 +64,6 @@ due-none [] zero fs is = refl
 due-none [] (suc k) fs is = refl
 due-none (x ∷ xs) zero fs is = absurd cc
 due-none (x ∷ xs) (suc k) fs is = due-none xs k fs is
-
-pub due-alone : (code : List Instr) (fs : List (Frame ℕ)) → length fs ≡ 0 → is_due code fs ≡ false
-due-alone [] fs e = refl
-due-alone (i ∷ is) [] e = refl
-due-alone (i ∷ is) (f ∷ fs) e = absurd (omega (arith, e))
 
 -- ---- bounds
 

@@ -1,11 +1,11 @@
 -- The pages that have no block.
-use Rattle.std.proofs.Common.{◌≡◌, ℕ, zero, suc, ◌+◌, ◌-◌, ◌≤◌, ◌<◌, Bool, true, false, List, [], ◌∷◌, ◌++◌, length, take, drop, replicate, get_or, Option, Some, None, slice_get, ◌⊎◌, ⊎_elim, ◌==◌, nat_lt, subst, refl, sym, ap, ap₂, ◌∙◌, arith, length-append}
+use Rattle.std.proofs.Common.{◌≡◌, ℕ, zero, suc, ◌+◌, ◌-◌, ◌≤◌, ◌<◌, Bool, true, false, List, [], ◌∷◌, ◌++◌, length, take, replicate, Some, slice_get, ◌⊎◌, ⊎_elim, ◌==◌, nat_lt, refl, sym, ap, ap₂, ◌∙◌, arith}
 use Rattle.std.proofs.lemmas.List.{length-replicate, get_or-replicate, take-replicate, drop-replicate, replicate-append-replicate}
 use Rattle.std.proofs.lemmas.Option.{slice_get-get_or}
 use Rattle.std.proofs.lemmas.Bool.Decides.{nat_tests}
 use Rattle.wasm_reduction.specs.Combinators.{written, part}
 use Rattle.wasm_reduction.specs.Memories.{page_bytes}
-use Rattle.wasm_run.specs.Pages.{Page, zeros, fresh, page_of}
+use Rattle.wasm_run.specs.Pages.{zeros, fresh, page_of}
 
 pub zeros-are : zeros ≡ replicate page_bytes 0
 unfolding zeros

@@ -1,9 +1,9 @@
 // The memory of a run on plain numbers.
-ghost use Rattle.std.specs.Prelude.{◌≡◌, ◌⊎◌, ℕ, ◌+◌, ◌*◌, ◌<◌, ◌≤◌, ◌^◌, List as Items, ◌++◌, All, IfOk, OnOk, OnErr, IsSome, Some, Ok, length, map, replicate, slice_get, slice_set};
+ghost use Rattle.std.specs.Prelude.{◌≡◌, ◌⊎◌, ℕ, ◌+◌, ◌*◌, ◌<◌, ◌≤◌, ◌^◌, ◌++◌, All, IfOk, OnOk, OnErr, IsSome, Some, Ok, length, replicate};
 ghost use Rattle.wasm_reduction.specs.Combinators.{written, part};
 ghost use Rattle.wasm_reduction.specs.Memories.{page_bytes};
 ghost use Rattle.wasm_rules.specs.Words.{numbers, HasNumber};
-ghost use Rattle.wasm_rules.specs.Accesses.{load_of, store_of, load_bytes, load_bits, store_bits, loaded, stored, store_bytes};
+ghost use Rattle.wasm_rules.specs.Accesses.{load_of, store_of, load_bytes, load_bits, loaded, stored, store_bytes};
 ghost use Rattle.wasm_run.specs.Pages.{AreHeld, AreWhole, Writes, cells_of, fresh, held_of, most_pages};
 
 use crate::accesses::{loaded_number, store_number};

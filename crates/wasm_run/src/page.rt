@@ -1,7 +1,7 @@
 // A page of a memory.
 ghost use Rattle.std.specs.Prelude.{◌≡◌, ◌⊎◌, ◌+◌, ◌<◌, ◌≤◌, true, IsSome, OnOk, Some, length, replicate, slice_get};
 ghost use Rattle.wasm_rules.specs.Words.{numbers, HasNumber};
-ghost use Rattle.wasm_rules.specs.Accesses.{load_of, store_of, load_bytes, load_bits, loaded, stored, store_bytes};
+ghost use Rattle.wasm_rules.specs.Accesses.{load_of, store_of, load_bytes, load_bits, loaded, stored};
 ghost use Rattle.wasm_reduction.specs.Combinators.{written, part};
 ghost use Rattle.wasm_reduction.specs.Memories.{page_bytes};
 ghost use Rattle.wasm_run.specs.Pages.{fresh};

@@ -27,9 +27,6 @@ get-mapped f (x ∷ xs) (suc k) y e = get-mapped f xs k y e
 pub operands-length : (ts : List ValType) → length (operands ts) ≡ length ts
 operands-length ts = length-reverse (ofs ts) ∙ length-map ts (λ t. Of t)
 
-pub nothing-before : (ts : List Operand) → operands [] ++ ts ≡ ts
-nothing-before ts = refl
-
 -- ---- what operands take
 
 takes-split : (xs ys ts rest : List Operand) → Takes ts (xs ++ ys) rest → (mid : List Operand) × Takes ts xs mid × Takes mid ys rest

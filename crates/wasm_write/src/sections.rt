@@ -4,7 +4,7 @@ ghost use Rattle.std.specs.List.{flat_map};
 ghost use Rattle.owi_base.specs.Leb.{unsigned_bytes};
 ghost use Rattle.wasm_ast.specs.Shape.{HasShape};
 ghost use Rattle.wasm_write.specs.Values.{vec_bytes};
-ghost use Rattle.wasm_write.specs.Modules.{id_of as id_of_slot, start_bytes, contents as contents_of, section_of, section_bytes, custom_section, customs_after, sections};
+ghost use Rattle.wasm_write.specs.Modules.{id_of as id_of_slot, start_bytes, contents as contents_of, section_of, section_bytes, custom_section, sections};
 ghost use Rattle.wasm_write.specs.Writing.{ArePut, custom_at, with_customs};
 
 use crate::WriteBad;

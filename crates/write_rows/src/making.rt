@@ -1,6 +1,5 @@
 // How the rows make their modules.
 use std::alloc::{AllocError, Global};
-use std::test::Fail;
 use wasm_ast::{Expr, Func, Instr, List, Module, Text, has_shape};
 use wasm_write::write_module;
 

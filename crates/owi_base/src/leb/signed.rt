@@ -1,5 +1,5 @@
 // Signed numbers in LEB128.
-ghost use Rattle.std.specs.Prelude.{◌≡◌, ◌↔◌, ℕ, ℤ, ◌+◌, ◌-◌, ◌^◌, pos, ◌+ℤ◌, ◌*ℤ◌, ◌<◌, ◌≤◌, List, ◌++◌, All, length, drop, IfOk, OnOk, OnErr, Ok, Err, nat_lt};
+ghost use Rattle.std.specs.Prelude.{◌≡◌, ◌↔◌, ℕ, ℤ, ◌+◌, ◌-◌, pos, ◌+ℤ◌, ◌*ℤ◌, ◌<◌, ◌≤◌, List, ◌++◌, All, length, drop, IfOk, OnOk, OnErr, Ok, Err, nat_lt};
 ghost use Rattle.owi_base.specs.Leb.{HasBits, SpellsSigned, SignedTrouble, last_value, low_bits as low_bits_of, high_part as high_part_of, distance, signed_bytes};
 ghost use Rattle.owi_base.specs.LebReading.{read_signed, placed};
 

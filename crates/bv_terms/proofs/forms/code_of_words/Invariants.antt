@@ -1,4 +1,4 @@
-use Rattle.std.proofs.Common.{◌≡◌, ℕ, drop}
+use Rattle.std.proofs.Common.{◌≡◌, drop}
 use Rattle.bv_terms.specs.Index.{words_code}
 use Rattle.bv_terms.proofs.forms.code_of_words.Given as goal
 

@@ -1,4 +1,4 @@
-use Rattle.std.proofs.Common.{subst, sym, ◌≡◌, true}
+use Rattle.std.proofs.Common.{subst, ◌≡◌, true}
 use Rattle.bv_terms.specs.Terms.{is_same}
 use Rattle.bv_terms.proofs.SameLemmas.{is_same-is, is_same-itself}
 use Rattle.bv_terms.proofs.laws.sameness_is_exact.Goals as goal

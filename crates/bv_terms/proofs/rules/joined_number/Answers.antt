@@ -1,6 +1,5 @@
-use Rattle.std.proofs.Common.{◌≡◌, Some, List, take, length, map, sym, ap, ◌∙◌}
+use Rattle.std.proofs.Common.{Some, take, length, map, sym, ap, ◌∙◌}
 use Rattle.std.specs.Prelude.{slice_index_or}
-use Rattle.int_ops.specs.Bytes.{joined}
 use Rattle.bv_terms.specs.declared.words.Word.{Word}
 use Rattle.bv_terms.specs.declared.words.Word.TheVariants.{Num}
 use Rattle.bv_terms.specs.Terms.{Number, bytes_from}

@@ -1,4 +1,4 @@
-use Rattle.std.proofs.Common.{◌≡◌, ℕ, length, take, ap, sym, ◌∙◌}
+use Rattle.std.proofs.Common.{ap, sym, ◌∙◌}
 use Rattle.int_ops.specs.Bytes.{joined}
 use Rattle.bv_terms.proofs.ValueLemmas.{looked-small, looked-known, looked-whole, looked-more}
 use Rattle.bv_terms.proofs.values.all_known.Goals as goal

@@ -1,10 +1,8 @@
-use Rattle.std.proofs.Common.{◌≡◌, ◌+◌, ◌≤◌, ◌<◌, List, All, length, map, ap, ap₂, sym, ◌∙◌, subst, arith}
+use Rattle.std.proofs.Common.{◌+◌, ◌≤◌, ◌<◌, All, length, ap, ap₂, sym, ◌∙◌, subst, arith}
 use Rattle.std.specs.Prelude.{Ok}
 use Rattle.int_ops.specs.Operators.{operand_bits, total}
-use Rattle.bv_terms.specs.declared.words.Word.{Word}
-use Rattle.bv_terms.specs.declared.words.Form.TheVariants.{Un, Bin, Join as JoinForm}
-use Rattle.bv_terms.specs.Terms.{Term, Join, bytes_from, HasWidth, width_of, value_of}
-use Rattle.bv_terms.specs.Graphs.{OperandsBelow, IsBelow, term_of, form_term, terms_of}
+use Rattle.bv_terms.specs.Terms.{HasWidth, width_of, value_of}
+use Rattle.bv_terms.specs.Graphs.{OperandsBelow, form_term, terms_of}
 use Rattle.bv_terms.specs.Walks.{IsKnown, known_value, LooksAll, Evaluates}
 use Rattle.bv_terms.proofs.FitLemmas.{join-count, join-each}
 use Rattle.bv_terms.proofs.ValueLemmas.{looked, operand-fits, bytes-fit, looked-all}

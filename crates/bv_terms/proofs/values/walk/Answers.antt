@@ -1,7 +1,7 @@
-use Rattle.std.proofs.Common.{◌≡◌, ◌<◌, ◌≤◌, ◌-◌, length, arith}
+use Rattle.std.proofs.Common.{◌-◌, arith}
 use Rattle.std.specs.Prelude.{slice_index}
 use Rattle.bv_terms.proofs.GraphLemmas.{length-terms_of}
-use Rattle.bv_terms.proofs.WalkLemmas.{Walking, walk-start, steps-pop, walked, IsOpen}
+use Rattle.bv_terms.proofs.WalkLemmas.{walk-start, steps-pop, walked, IsOpen}
 use Rattle.bv_terms.proofs.values.walk.Goals as goal
 
 pub loop-depth-init : goal.loop-depth-init

@@ -1,5 +1,5 @@
-use Rattle.std.proofs.Common.{sym, subst, arith}
-use Rattle.std.specs.Prelude.{false, ◌≤◌, length}
+use Rattle.std.proofs.Common.{arith}
+use Rattle.std.specs.Prelude.{false}
 use Rattle.wasm_machine.specs.Moves.{own}
 use Rattle.wasm_machine.proofs.Images.{word_at-some}
 use Rattle.wasm_machine.proofs.NumericLaws.{own-word-held, own-within}

@@ -1,6 +1,6 @@
-use Rattle.std.proofs.Common.{sym, ap, ◌∙◌, arith, subst}
+use Rattle.std.proofs.Common.{sym, ◌∙◌, arith, subst}
 use Rattle.std.specs.Prelude.{◌≤◌, ◌<◌, length}
-use Rattle.wasm_machine.specs.Moves.{own, from_end}
+use Rattle.wasm_machine.specs.Moves.{own}
 use Rattle.wasm_machine.proofs.Steps.{length-own}
 use Rattle.wasm_machine.proofs.LabelLaws.{label-short, branch-room}
 use Rattle.wasm_machine.proofs.BranchLaws.{branch-beyond, branch-few, branch-last, branch-goes, arity-within}

@@ -1,4 +1,3 @@
-use Rattle.std.proofs.Common.{arith}
 use Rattle.wasm_machine.proofs.CallLaws.{call-acts}
 use Rattle.wasm_machine.proofs.calls.call.Goals as goal
 

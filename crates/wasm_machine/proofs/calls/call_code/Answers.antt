@@ -1,9 +1,7 @@
-use Rattle.std.proofs.Common.{sym, ap, ◌∙◌, arith, subst, refl}
-use Rattle.std.specs.Prelude.{◌≤◌, length}
-use Rattle.wasm_machine.specs.Moves.{own}
+use Rattle.std.proofs.Common.{arith}
 use Rattle.wasm_machine.proofs.Steps.{length-own}
 use Rattle.wasm_machine.proofs.NumericLaws.{own-within}
-use Rattle.wasm_machine.proofs.CallLaws.{code-lacks, code-few, code-goes, args-within}
+use Rattle.wasm_machine.proofs.CallLaws.{code-lacks, code-goes, args-within}
 use Rattle.wasm_machine.proofs.calls.call_code.Goals as goal
 
 pub discard-requires : goal.discard-requires

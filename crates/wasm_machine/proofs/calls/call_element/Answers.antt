@@ -1,5 +1,5 @@
-use Rattle.std.proofs.Common.{sym, ap, ◌∙◌, arith, subst}
-use Rattle.std.specs.Prelude.{false, Some}
+use Rattle.std.proofs.Common.{sym, arith, subst}
+use Rattle.std.specs.Prelude.{false}
 use Rattle.wasm_ast.specs.declared.runs.Cause.TheVariants.{Undefined}
 use Rattle.wasm_machine.specs.Moves.{own}
 use Rattle.wasm_machine.specs.Acts.{Ready}

@@ -1,4 +1,4 @@
-use Rattle.std.proofs.Common.{sym, ap, ◌∙◌, arith, subst}
+use Rattle.std.proofs.Common.{arith, subst}
 use Rattle.std.specs.Prelude.{◌≤◌, ◌-◌, length, drop}
 use Rattle.wasm_machine.specs.Says.{Tells}
 use Rattle.wasm_machine.proofs.CallLaws.{function_says, calls-host, calls-code, calls-none, linked-host}

@@ -1,4 +1,4 @@
-use Rattle.std.proofs.Common.{sym, ap, ◌∙◌, arith, subst}
+use Rattle.std.proofs.Common.{arith}
 use Rattle.wasm_machine.proofs.IndirectLaws.{picked-none, picked-mismatch, picked-calls}
 use Rattle.wasm_machine.proofs.calls.call_of_type.Goals as goal
 

@@ -1,4 +1,4 @@
-use Rattle.std.proofs.Common.{sym, ap, ◌∙◌}
+use Rattle.std.proofs.Common.{◌∙◌}
 use Rattle.wasm_machine.proofs.LabelLaws.{back-room}
 use Rattle.wasm_machine.proofs.ControlLaws.{back-goes, back-ends}
 use Rattle.wasm_machine.proofs.control.give_back.Goals as goal

@@ -1,4 +1,4 @@
-use Rattle.std.proofs.Common.{sym, ap, ◌∙◌, subst, arith}
+use Rattle.std.proofs.Common.{sym, subst, arith}
 use Rattle.std.specs.Prelude.{false}
 use Rattle.wasm_machine.specs.Moves.{own}
 use Rattle.wasm_machine.specs.Acts.{Sane}

@@ -1,7 +1,6 @@
-use Rattle.std.proofs.Common.{sym, ap, ◌∙◌, subst, arith}
-use Rattle.wasm_machine.specs.Moves.{own, entered}
+use Rattle.std.proofs.Common.{arith}
 use Rattle.wasm_machine.proofs.Steps.{length-own}
-use Rattle.wasm_machine.proofs.ControlLaws.{open-lacks, open-few, open-goes}
+use Rattle.wasm_machine.proofs.ControlLaws.{open-lacks, open-goes}
 use Rattle.wasm_machine.proofs.control.open.Goals as goal
 
 pub returns-in-None : goal.returns-in-None

@@ -1,10 +1,9 @@
 use Rattle.std.proofs.Common.{subst, sym, ap, ◌∙◌, arith}
-use Rattle.wasm_machine.specs.Values.{word_at, valued as code_valued}
 use Rattle.wasm_machine.specs.Moves.{own, replaced}
 use Rattle.wasm_reduction.specs.Configurations.{Test, Asks}
 use Rattle.wasm_machine.proofs.Images.{word_at-some}
 use Rattle.wasm_machine.proofs.ActLaws.{ask-acts, trap-acts}
-use Rattle.wasm_machine.proofs.NumericLaws.{two-binary, operand-bits, own-word-held, operand-wide, eqz-unary, eqz-operand, Operands, binary-said, binary-goes, own-within, has-at}
+use Rattle.wasm_machine.proofs.NumericLaws.{two-binary, operand-bits, own-word-held, operand-wide, eqz-unary, eqz-operand, binary-said, binary-goes, own-within}
 use Rattle.int_ops.specs.Operators.{operand_bits}
 use Rattle.wasm_machine.proofs.numeric.apply.Goals as goal
 

@@ -1,4 +1,4 @@
-use Rattle.std.proofs.Common.{subst, sym, ap, ◌∙◌}
+use Rattle.std.proofs.Common.{ap, ◌∙◌}
 use Rattle.wasm_machine.specs.Values.{word_at}
 use Rattle.wasm_machine.specs.Moves.{own}
 use Rattle.wasm_machine.proofs.NumericLaws.{binary-lacks-second, binary-lacks-first}

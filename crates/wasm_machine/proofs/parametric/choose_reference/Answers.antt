@@ -1,5 +1,4 @@
 use Rattle.std.specs.Prelude.{false}
-use Rattle.std.proofs.Common.{ap, ◌∙◌}
 use Rattle.wasm_machine.specs.declared.values.Value.TheVariants.{Ref as CodeRef}
 use Rattle.wasm_machine.proofs.NumericLaws.{own-word-held}
 use Rattle.wasm_machine.proofs.ParametricLaws.{reference-unlike, select-asks, select-refers, three-within}

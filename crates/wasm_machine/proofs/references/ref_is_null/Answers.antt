@@ -1,6 +1,5 @@
 use Rattle.std.proofs.Common.{ap, ◌∙◌}
 use Rattle.int_ops.specs.Integers.{truth}
-use Rattle.wasm_machine.proofs.Images.{reference_at-some}
 use Rattle.wasm_machine.proofs.ReferenceLaws.{is_null-stuck, is_null-goes}
 use Rattle.wasm_machine.proofs.references.ref_is_null.Goals as goal
 

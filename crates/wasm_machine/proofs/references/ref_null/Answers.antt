@@ -1,6 +1,3 @@
-use Rattle.std.proofs.Common.{ap, ◌∙◌}
-use Rattle.std.specs.Prelude.{option_map}
-use Rattle.wasm_machine.specs.Values.{reference}
 use Rattle.wasm_machine.proofs.ReferenceLaws.{null-stuck, null-goes}
 use Rattle.wasm_machine.proofs.references.ref_null.Goals as goal
 

@@ -1,4 +1,4 @@
-use Rattle.std.proofs.Common.{◌≡◌, Some, map, length, Bool, false, replicate, vec_len, ◌∙◌, sym, ap}
+use Rattle.std.proofs.Common.{◌≡◌, Some, map, Bool, false, replicate, vec_len, ◌∙◌, sym, ap}
 use Rattle.wasm_reduction.specs.Instantiation.{first_elems, first_tables}
 use Rattle.wasm_machine.specs.Starts.{plain, Parts}
 use Rattle.wasm_machine.specs.Values.{reference}

@@ -1,4 +1,4 @@
-use Rattle.std.proofs.Common.{◌≡◌, ℕ, List, [], map, Ok, sym, ap, ◌∙◌, subst}
+use Rattle.std.proofs.Common.{◌≡◌, [], map, Ok, sym, ap, ◌∙◌, subst}
 use Rattle.std.specs.Prelude.{slice_set}
 use Rattle.wasm_ast.specs.declared.modules.Mode.TheVariants.{Declared}
 use Rattle.wasm_reduction.specs.Instantiation.{start_elem}

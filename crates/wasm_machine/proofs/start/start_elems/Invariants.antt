@@ -1,4 +1,3 @@
-use Rattle.std.proofs.Common.{◌≡◌, ℕ, List, length, drop}
 use Rattle.wasm_machine.proofs.StartLemmas.{ElemsSoFar}
 use Rattle.wasm_machine.proofs.start.start_elems.Given as goal
 

@@ -1,4 +1,4 @@
-use Rattle.std.proofs.Common.{sym, ap, ◌∙◌, subst, refl}
+use Rattle.std.proofs.Common.{refl}
 use Rattle.wasm_machine.proofs.Images.{kept-same}
 use Rattle.wasm_machine.proofs.AccessLaws.{by_recursion}
 use Rattle.wasm_machine.proofs.ActLaws.{trap-acts}

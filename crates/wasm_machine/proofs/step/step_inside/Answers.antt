@@ -1,4 +1,4 @@
-use Rattle.std.proofs.Common.{◌≡◌, sym, ap, ◌∙◌, subst, map}
+use Rattle.std.proofs.Common.{◌≡◌, subst, map}
 use Rattle.std.specs.Prelude.{slice_get, Some, None}
 use Rattle.wasm_machine.specs.Configurations.{code_of}
 use Rattle.wasm_machine.proofs.StepLaws.{wide-state, small-state, ready-cells, next-is, next-in-range, next-steps, end-steps}

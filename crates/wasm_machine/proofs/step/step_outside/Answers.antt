@@ -1,4 +1,4 @@
-use Rattle.std.proofs.Common.{sym, ap, ◌∙◌, subst, arith}
+use Rattle.std.proofs.Common.{ap, ◌∙◌}
 use Rattle.wasm_machine.specs.Configurations.{outer_call_of}
 use Rattle.wasm_machine.proofs.StepLaws.{wide-state, outer-place, call-steps, over-steps}
 use Rattle.wasm_machine.proofs.step.step_outside.Goals as goal

@@ -1,8 +1,7 @@
 use Rattle.std.proofs.Common.{◌≡◌, ℕ, List, map, ◌∙◌}
 use Rattle.int_ops.specs.Bytes.{joined}
 use Rattle.wasm_rules.specs.Words.{bits_where}
-use Rattle.bv_terms.specs.declared.words.Word.{Word}
-use Rattle.bv_terms.specs.Terms.{Term, Join, bytes_from, HasWidth, value_of}
+use Rattle.bv_terms.specs.Terms.{Term, Join, bytes_from, value_of}
 use Rattle.bv_terms.specs.Making.{made}
 use Rattle.bv_terms.specs.Graphs.{term_of}
 use Rattle.bv_terms.proofs.MakeLemmas.{made-width, made-value, made-kept, joined-width, joined-value, if_ok}

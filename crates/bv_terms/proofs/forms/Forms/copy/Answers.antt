@@ -1,4 +1,4 @@
-use Rattle.std.proofs.Common.{◌≡◌, ap, sym, ◌∙◌, subst, map}
+use Rattle.std.proofs.Common.{ap, sym, ◌∙◌, subst, map}
 use Rattle.bv_terms.specs.Index.{IsLinked}
 use Rattle.bv_terms.proofs.FindLemmas.{same-items, same-entries, linked-same}
 use Rattle.bv_terms.proofs.forms.Forms.copy.Goals as goal

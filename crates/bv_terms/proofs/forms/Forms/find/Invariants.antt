@@ -1,7 +1,3 @@
-use Rattle.std.proofs.Common.{◌≡◌, ◌<◌, ℕ, List, length, zero, ◌+◌, Option, Some, None, map}
-use Rattle.std.specs.Prelude.{slice_get}
-use Rattle.bv_terms.specs.declared.words.Form.{Form}
-use Rattle.bv_terms.specs.Index.{AtMost}
 use Rattle.bv_terms.proofs.FindLemmas.{Reaches, steps_of}
 use Rattle.bv_terms.proofs.forms.Forms.find.Given as goal
 

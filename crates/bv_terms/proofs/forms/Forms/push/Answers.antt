@@ -1,4 +1,4 @@
-use Rattle.std.proofs.Common.{◌≡◌, ◌++◌, ◌∷◌, [], Some, Option, ℕ, ap, sym, ◌∙◌, subst, length, refl, cond, arith}
+use Rattle.std.proofs.Common.{◌≡◌, Some, ℕ, ap, sym, ◌∙◌, subst, length, cond, arith}
 use Rattle.std.specs.Prelude.{nat_eq}
 use Rattle.std.specs.HashMap.{get, Updates}
 use Rattle.bv_terms.specs.declared.forms.Node.{Node}

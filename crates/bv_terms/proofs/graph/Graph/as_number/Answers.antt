@@ -1,6 +1,5 @@
-use Rattle.std.proofs.Common.{◌≡◌, ap, sym, subst}
-use Rattle.bv_terms.specs.Terms.{number_of}
-use Rattle.bv_terms.specs.Graphs.{TermGraph, term_of, Holds, IsGraph}
+use Rattle.std.proofs.Common.{sym, subst}
+use Rattle.bv_terms.specs.Graphs.{TermGraph, IsGraph}
 use Rattle.bv_terms.proofs.FitLemmas.{word-no_number}
 use Rattle.bv_terms.proofs.graph.Graph.as_number.Goals as goal
 

@@ -1,4 +1,4 @@
-use Rattle.std.proofs.Common.{◌≡◌, ◌+◌, ap, sym, subst}
+use Rattle.std.proofs.Common.{◌+◌, ap, sym, subst}
 use Rattle.bv_terms.specs.Graphs.{TermGraph, Draws}
 use Rattle.bv_terms.proofs.MakeLemmas.{draws}
 use Rattle.bv_terms.proofs.graph.Graph.draw.Goals as goal

@@ -1,8 +1,7 @@
-use Rattle.std.proofs.Common.{◌≡◌, ℕ, ◌+◌, ◌<◌, ◌^◌, List, Some, length, ap, sym, subst, arith}
-use Rattle.std.specs.Prelude.{slice_get}
+use Rattle.std.proofs.Common.{◌≡◌, ℕ, ◌+◌, ◌<◌, ◌^◌, List, length, ap, sym, subst, arith}
 use Rattle.bv_terms.specs.declared.words.Word.TheVariants.{Term as Numbered}
 use Rattle.bv_terms.specs.declared.words.Form.{Form}
-use Rattle.bv_terms.specs.Terms.{Term, HasWidth, width_of}
+use Rattle.bv_terms.specs.Terms.{HasWidth, width_of}
 use Rattle.bv_terms.specs.Graphs.{TermGraph, terms_of, form_among, form_term, OperandsBelow, IsGraph, Makes}
 use Rattle.bv_terms.proofs.GraphLemmas.{graph-push}
 use Rattle.bv_terms.proofs.MakeLemmas.{makes-found, makes-new}
