@@ -1,6 +1,5 @@
 -- Loops that put gates: what was put so far, and what is still to be put.
-use Rattle.std.proofs.Common.{◌≡◌, ◌<◌, ◌≤◌, ◌+◌, ◌*◌, ◌^◌, ◌%◌, zero, suc, add-one, ◌⊎◌, inl, inr, min, ℕ, List, [], ◌∷◌, ◌++◌, length, drop, get_or, refl, sym, ap, subst, ◌∙◌, arith}
-use Rattle.bit_blast.specs.declared.gates.Gate.{Gate}
+use Rattle.std.proofs.Common.{◌≡◌, ◌<◌, ◌≤◌, ◌+◌, ◌*◌, ◌^◌, ◌%◌, zero, suc, add-one, ◌⊎◌, inl, inr, min, ℕ, [], ◌∷◌, ◌++◌, length, drop, get_or, refl, sym, ap, subst, ◌∙◌, arith}
 use Rattle.bit_blast.specs.declared.gates.Gate.TheVariants.{Mux}
 use Rattle.bit_blast.specs.declared.blocks.Sum.{Sum}
 use Rattle.bit_blast.specs.Gates.{Wires, Circuit}
@@ -8,7 +7,7 @@ use Rattle.std.specs.Prelude.{slice_get, Some, None}
 use Rattle.std.proofs.lemmas.List.{append-nil}
 use Rattle.std.proofs.Math.Nat.{pow-succ'}
 use Rattle.bit_blast.specs.declared.blocks.Shift.{Shift}
-use Rattle.bit_blast.specs.Blocks.{Built, Builds, put, put_all, add, less_after, add_row, add_rows, each_two, moved, shift_by}
+use Rattle.bit_blast.specs.Blocks.{Built, Builds, add, less_after, add_row, add_rows, each_two, moved, shift_by}
 use Rattle.bit_blast.proofs.WireLoops.{drop_next, over, spent}
 
 -- wires in front of those that are given
@@ -17,13 +16,6 @@ after_wires out built = record { circuit = built.circuit; result = out ++ built.
 
 abbrev pub after_sums : Wires → Built Sum → Built Sum
 after_sums out built = record { circuit = built.circuit; result = record { sums = out ++ built.result.sums; carry = built.result.carry } }
-
-pub put_all-next : (out : Wires) (gate : Gate) (gates : List Gate) (old new : Circuit) (wire : ℕ) → Builds (put gate) old wire new
-    → after_wires (out ++ wire ∷ []) (put_all gates new) ≡ after_wires out (put_all (gate ∷ gates) old)
-put_all-next out gate gates old new wire b =
-    let e : wire ≡ (put gate old).result = b.result_is in
-    let n : new ≡ (put gate old).circuit = b.circuit in
-    let l = over out (put gate old).result (put_all gates (put gate old).circuit).result in cc
 
 -- ---- where a loop over two integers ends
 

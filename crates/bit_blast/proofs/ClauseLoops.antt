@@ -1,10 +1,8 @@
 -- Clauses that are written a literal at a time, and the clauses of gates.
-use Rattle.std.proofs.Common.{◌≡◌, ◌<◌, ◌≤◌, ◌+◌, ℕ, List, [], ◌∷◌, ◌++◌, length, take, get_or, reverse, refl, sym, ap, ◌∙◌, arith}
+use Rattle.std.proofs.Common.{◌≡◌, ◌<◌, ◌+◌, ℕ, List, [], ◌∷◌, ◌++◌, length, take, get_or, refl, sym, ap, ◌∙◌}
 use Rattle.std.specs.Prelude.{Bool, true, false, not, ◌==◌, ◌||◌, if◌then◌else◌}
 use Rattle.std.proofs.lemmas.Bool.{true≢false}
-use Rattle.std.proofs.lemmas.List.{take_more, append-nil, reverse-append, length-reverse, length-take-le}
-use Rattle.bit_blast.specs.declared.gates.Gate.{Gate}
-use Rattle.bit_blast.specs.Gates.{clauses_from, gate_clauses}
+use Rattle.std.proofs.lemmas.List.{take_more, append-nil}
 use Rattle.std.proofs.lemmas.List.Elements.{filter-append}
 use Rattle.refute_check.specs.Resolution.{has, without, each_once}
 use Rattle.refute_check.proofs.Membership.{has-each_once, swapped}
@@ -57,17 +55,3 @@ put_once-next old new xs i h e n = go (has old (get_or xs i 0)) refl
     go false f = n ∙ ap (λ b. if b then old else old ++ get_or xs i 0 ∷ []) f ∙ put_new old xs i h e f
 
 -- ---- the clauses of gates
-
--- the clauses of one gate more
-pub clauses-next : (first : ℕ) (gates : List Gate) (i : ℕ) (gate : Gate) → i < length gates → gate ≡ get_or gates i gate
-    → clauses_from first (reverse (take (i + 1) gates)) ≡ clauses_from first (reverse (take i gates)) ++ gate_clauses (first + i) gate
-clauses-next first gates i gate h is =
-    let turned : reverse (take (i + 1) gates) ≡ get_or gates i gate ∷ reverse (take i gates) =
-    ap (λ gs. reverse gs) (take_more gates i gate h) ∙ reverse-append (take i gates) (get_or gates i gate ∷ []) in
-    let long : length (reverse (take i gates)) ≡ i = length-reverse (take i gates) ∙ length-take-le i gates (le_of i (length gates) h) in
-    ap (λ gs. clauses_from first gs) turned
-    ∙ ap (λ n. clauses_from first (reverse (take i gates)) ++ gate_clauses (first + n) (get_or gates i gate)) long
-    ∙ ap (λ g. clauses_from first (reverse (take i gates)) ++ gate_clauses (first + i) g) (sym is)
-  where
-    le_of : (m n : ℕ) → m < n → m ≤ n
-    le_of m n h = omega arith

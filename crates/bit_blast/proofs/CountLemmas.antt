@@ -18,10 +18,6 @@ abbrev pub counted : List Bool → List Bool → List Bool
 counted sum [] = sum
 counted sum (x ∷ xs) = counted (sums sum (x ∷ false ∷ false ∷ false ∷ false ∷ false ∷ false ∷ []) false) xs
 
-pub length_counted : (sum xs : List Bool) → length sum ≡ 7 → length (counted sum xs) ≡ 7
-length_counted sum [] long = long
-length_counted sum (x ∷ xs) long = length_counted (sums sum (x ∷ false ∷ false ∷ false ∷ false ∷ false ∷ false ∷ []) false) xs (length_sums sum (x ∷ false ∷ false ∷ false ∷ false ∷ false ∷ false ∷ []) false long ∙ long)
-
 ones_at_most : (xs : List Bool) → ones_among xs ≤ length xs
 ones_at_most [] = omega arith
 ones_at_most (x ∷ xs) = let rest = ones_at_most xs in let here = bit_le x in omega arith
@@ -67,10 +63,6 @@ ones_are (x ∷ xs) =
 abbrev pub clear_so_far : Bool → List Bool → List Bool
 clear_so_far e [] = []
 clear_so_far e (x ∷ xs) = (e && not x) ∷ clear_so_far (e && not x) xs
-
-pub length_clear : (e : Bool) (xs : List Bool) → length (clear_so_far e xs) ≡ length xs
-length_clear e [] = refl
-length_clear e (x ∷ xs) = ap suc (length_clear (e && not x) xs)
 
 pub none_clear : (xs : List Bool) → ones_among (clear_so_far false xs) ≡ 0
 none_clear [] = refl

@@ -35,22 +35,6 @@ greater-step x xs s t g = go g.0 g.3 g.4
         let rest : xs ≡ before ++ g.1 ∷ g.2 = cc in
         inr (ap s here ∙ same.0 ∙ sym (ap t here), (before, g.1, g.2, rest, same.1, g.5, g.6))
 
-greater-none : (s t : Assignment) → IsGreater [] s t → ⊥
-greater-none s t g = go g.0 g.3
-  where
-    go : (before : List ℕ) → [] ≡ before ++ g.1 ∷ g.2 → ⊥
-    go [] e = cc
-    go (y ∷ before) e = cc
-
-pub greater-names : (xs : List ℕ) (s t : Assignment) → IsGreater xs s t → (v : ℕ) × Names xs v × (s v ≡ false) × (t v ≡ true)
-greater-names [] s t g = absurd (greater-none s t g)
-greater-names (x ∷ xs) s t g = go (λ h. greater-names xs s t h) (greater-step x xs s t g)
-  where
-    go : (IsGreater xs s t → (v : ℕ) × Names xs v × (s v ≡ false) × (t v ≡ true)) → ((s x ≡ false) × (t x ≡ true)) ⊎ ((s x ≡ t x) × IsGreater xs s t)
-        → (v : ℕ) × Names (x ∷ xs) v × (s v ≡ false) × (t v ≡ true)
-    go rec (inl h) = (x, inl refl, h.0, h.1)
-    go rec (inr h) = let r = rec h.1 in (r.0, inr r.1, r.2, r.3)
-
 -- the bits of the first variables, the highest first, are a lower number, or they are the same and the others decide
 pub greater-part : (xs rest : List ℕ) (s t : Assignment) → IsGreater (xs ++ rest) s t
     → (number_down (map s xs) < number_down (map t xs)) ⊎ ((map s xs ≡ map t xs) × IsGreater rest s t)

@@ -45,10 +45,6 @@ bit_lowest x = ⊎_elim odd even (cases_eq (x % 2) 1)
     even : (x % 2 ≡ 1 → ⊥) → bit (lowest x) ≡ x % 2
     even e = ap (λ (b : Bool). bit b) (ne_eqb (x % 2) 1 e) ∙ omega arith
 
-pub length_bits_of : (n x : ℕ) → length (bits_of n x) ≡ n
-length_bits_of zero x = refl
-length_bits_of (suc n) x = ap suc (length_bits_of n (x / 2))
-
 pub number_bits_of : (n x : ℕ) → x < 2 ^ n → number (bits_of n x) ≡ x
 number_bits_of zero x h = omega arith
 number_bits_of (suc n) x h =

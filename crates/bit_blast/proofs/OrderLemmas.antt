@@ -76,13 +76,6 @@ has-cases (x ∷ xs) t a h = go (λ h. has-cases xs t a h) (is_same a x) h
     go rest true h = inl refl
     go rest false h = rest h
 
-ready-front : (xs ys : List Term) (t : Term) → Ready xs t → Ready (xs ++ ys) t
-ready-front xs ys t h = go (is_number t) h
-  where
-    go : (b : Bool) → IsTrue (b || list_any (is_same t) xs) → IsTrue (b || list_any (is_same t) (xs ++ ys))
-    go true h = refl
-    go false h = has-front xs ys t h
-
 -- one more at the end
 ordered-last : (draws : List Bool) (before xs : List Term) (t : Term) → Ordered draws before xs → OperandsReady (before ++ xs) t → IsProper draws t → Ordered draws before (xs ++ t ∷ [])
 ordered-last draws before [] t h ready proper = (subst (λ (ts : List Term). OperandsReady ts t) (append-nil before) ready, proper, tt)

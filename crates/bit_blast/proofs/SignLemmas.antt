@@ -98,22 +98,6 @@ abbrev pub of_sign : Bool → ℕ → ℤ
 of_sign true x = neg_ℤ (pos x)
 of_sign false x = pos x
 
--- a number of N bits is its absolute value with its sign
-pub signed_parts : (n low : ℕ) (s : Bool) → low < 2 ^ n → signed (n + 1) (low + 2 ^ n * bit s) ≡ of_sign s (negated (n + 1) s (low + 2 ^ n * bit s))
-signed_parts n low true h =
-    signed_is n low true h
-    ∙ go (2 ^ n) (2 ^ (n + 1)) low h (ap (λ (k : ℕ). 2 ^ k) add_one ∙ pow-suc 2 n)
-  where
-    add_one : n + 1 ≡ suc n
-    add_one = omega arith
-
-    go : (p q low : ℕ) → low < p → q ≡ p * 2 → negsuc (p - 1 - low) ≡ neg_ℤ (pos ((q - (low + p * 1)) % q))
-    go p q low h e =
-        let whole : q - (low + p * 1) ≡ suc (p - 1 - low) = omega arith in
-        let small : suc (p - 1 - low) < q = omega arith in
-        sym (ap (λ (k : ℕ). neg_ℤ (pos (k % q))) whole ∙ ap (λ (k : ℕ). neg_ℤ (pos k)) (mod-eq_of_lt small))
-signed_parts n low false h = signed_is n low false h ∙ ap (λ (k : ℕ). pos k) (omega arith)
-
 -- the integer of N bits with this absolute value and sign
 pub unsigned_parts : (N : ℕ) (s : Bool) (q : ℕ) → q < 2 ^ N → unsigned N (of_sign s q) ≡ negated N s q
 unsigned_parts N true zero h = turn (2 ^ N) (pow_pos N)
@@ -131,11 +115,6 @@ unsigned_parts N true (suc m) h = go (2 ^ N) m h
         less : p - 1 - m ≡ p - suc m
         less = omega arith
 unsigned_parts N false q h = mod-eq_of_lt h
-
-neg_twice : (z : ℤ) → neg_ℤ (neg_ℤ z) ≡ z
-neg_twice (pos zero) = refl
-neg_twice (pos (suc n)) = refl
-neg_twice (negsuc n) = refl
 
 -- the quotient of signed numbers is that of the absolute values, negative where the signs differ
 pub quotient_parts : (s t : Bool) (x y : ℕ) → int_div (of_sign s x) (of_sign t y) ≡ of_sign (differ s t) (x / y)

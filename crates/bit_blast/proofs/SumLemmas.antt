@@ -183,9 +183,6 @@ negation_is s xs =
         let same : number xs + 0 + 0 ≡ number xs = omega arith in
         ap (λ (ys : List Bool). (number ys + 0 + 0) % 2 ^ length xs) (kept_bits xs) ∙ ap (λ (n : ℕ). n % 2 ^ length xs) same ∙ mod-eq_of_lt (number_below xs)
 
-pub length_negation : (s : Bool) (xs : List Bool) → length (negated_if s xs) ≡ length xs
-length_negation s xs = length_sums (map (λ x. differ x s) xs) (replicate (length xs) false) s (length_turned s xs ∙ sym (length_zeros (length xs))) ∙ length_turned s xs
-
 -- ---- one of two rows of bits
 
 abbrev pub either_bits : Bool → List Bool → List Bool → List Bool
@@ -203,10 +200,6 @@ either_false [] [] long = refl
 either_false [] (y ∷ ys) long = absurd (omega arith)
 either_false (x ∷ xs) [] long = absurd (omega arith)
 either_false (x ∷ xs) (y ∷ ys) long = ap (λ (zs : List Bool). y ∷ zs) (either_false xs ys (same_rest long))
-
-pub either_row : (s : Bool) (xs ys : List Bool) → length xs ≡ length ys → either_bits s xs ys ≡ cond s xs ys
-either_row true xs ys long = either_true xs ys long
-either_row false xs ys long = either_false xs ys long
 
 pub either_is : (s : Bool) (xs ys : List Bool) → length xs ≡ length ys → number (either_bits s xs ys) ≡ cond s (number xs) (number ys)
 either_is true xs ys long = ap (λ (zs : List Bool). number zs) (either_true xs ys long)

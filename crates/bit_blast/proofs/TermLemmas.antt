@@ -1,5 +1,5 @@
 -- The wires of terms, one term after another.
-use Rattle.std.proofs.Common.{◌≡◌, ℕ, zero, suc, ◌+◌, ◌-◌, ◌<◌, ◌≤◌, Bool, true, false, List, [], ◌∷◌, ◌++◌, length, map, get_or, drop, All, refl, ap, sym, subst, ◌∙◌, append_assoc, arith, Option, Some, None}
+use Rattle.std.proofs.Common.{◌≡◌, ℕ, zero, suc, ◌+◌, ◌-◌, ◌<◌, ◌≤◌, Bool, true, false, List, [], ◌∷◌, ◌++◌, length, map, get_or, drop, All, refl, ap, sym, subst, ◌∙◌, arith, Option, Some, None}
 use Rattle.std.specs.Prelude.{◌==◌, not, if◌then◌else◌, option_map, slice_get, slice_index_or, IsTrue}
 use Rattle.std.proofs.lemmas.Bool.{false≢true}
 use Rattle.std.proofs.lemmas.Option.{get_or_from_slice_get, slice_get_read}
@@ -121,17 +121,6 @@ operand-term known bits (Join wide bytes) h = refl
 pub operand-at : (known : Known) (bits : ℕ) (g : TermGraph) (t : ℕ) → IsGraph g.forms → Holds g (Numbered t) → wires_in known (term_at g t) ≡ operand known bits (term_at g t)
 operand-at known bits g t graph ht =
     sym (operand-term known bits (term_at g t) (graph.proper (t - 256) (term_at g t) (held g.forms t ht)).0)
-
--- one byte more
-pub bytes-next : (known : Known) (g : TermGraph) (bytes : List Word) (i : ℕ) (byte : Word) (all longer one : Wires) → i < length bytes → byte ≡ get_or bytes i byte
-    → one ≡ operand known 8 (term_of g byte) → longer ≡ all ++ one
-    → longer ++ byte_wires known (bytes_from (map (term_of g) (drop (i + 1) bytes))) ≡ all ++ byte_wires known (bytes_from (map (term_of g) (drop i bytes)))
-bytes-next known g bytes i byte all longer one h is made long =
-    let left : drop i bytes ≡ byte ∷ drop (i + 1) bytes = drop_next bytes i byte h ∙ ap (λ b. b ∷ drop (i + 1) bytes) (sym is) in
-    ap (λ ws. ws ++ byte_wires known (bytes_from (map (term_of g) (drop (i + 1) bytes)))) long
-    ∙ append_assoc all one (byte_wires known (bytes_from (map (term_of g) (drop (i + 1) bytes))))
-    ∙ ap (λ o. all ++ (o ++ byte_wires known (bytes_from (map (term_of g) (drop (i + 1) bytes))))) made
-    ∙ sym (ap (λ bs. all ++ byte_wires known (bytes_from (map (term_of g) bs))) left)
 
 -- ---- one term more
 

@@ -37,14 +37,6 @@ some_is a b e = cc
 less : (i j : ℕ) → j ≤ i → (i ≡ j → ⊥) → j < i
 less i j below apart = omega arith
 
--- at the head of its code
-pub reaches-head : (nodes : List Node) (heads : Heads) (form : Form) → IsLinked nodes heads → Reaches nodes form (get nat_eq heads (form_code form))
-reaches-head nodes heads form links = record {
-  within = λ i e. links.head (form_code form) i e;
-  reached = λ i node at is. subst (λ f. AtMost i (get nat_eq heads (form_code f))) is (links.reached i node at);
-  coded = λ i node e at. links.of_code (form_code form) i node e at;
-}
-
 -- at the place before
 pub reaches-next : (nodes : List Node) (heads : Heads) (form : Form) (i : ℕ) (node : Node) → IsLinked nodes heads → Reaches nodes form (Some i) → slice_get nodes i ≡ Some node
     → (node.form ≡ form → ⊥) → Reaches nodes form node.earlier

@@ -1,10 +1,9 @@
 -- Where the making rules fit and where they don't, for the words of a graph.
-use Rattle.std.proofs.Common.{◌≡◌, ℕ, zero, suc, ◌+◌, ◌-◌, ◌<◌, ◌≤◌, Bool, true, false, List, [], ◌∷◌, ◌++◌, length, map, take, All, refl, ap, sym, ◌∙◌, subst, arith, Some, None, ⊎_elim, ap₂, add-one}
-use Rattle.std.specs.Prelude.{◌⊎◌, not, IsTrue, slice_get, slice_set, unwrap_or, option_map}
+use Rattle.std.proofs.Common.{◌≡◌, ℕ, zero, suc, ◌+◌, ◌-◌, ◌<◌, ◌≤◌, Bool, true, false, List, [], ◌∷◌, length, map, take, All, refl, ap, sym, ◌∙◌, subst, arith, Some, None, ⊎_elim}
+use Rattle.std.specs.Prelude.{◌⊎◌, not, IsTrue, slice_get, unwrap_or, option_map}
 use Rattle.std.proofs.lemmas.Bool.{false≢true, cases_eq}
 use Rattle.std.proofs.lemmas.List.Elements.{All-nil, All-head, All-tail, All-cons, All-weaker}
-use Rattle.std.proofs.lemmas.List.{take_more, map-append, take_all}
-use Rattle.std.proofs.Math.Seq.{take-suc-set}
+use Rattle.std.proofs.lemmas.List.{take_all}
 use Rattle.int_ops.specs.Bytes.{joined}
 use Rattle.wasm_rules.specs.Words.{CanJoin}
 use Rattle.bv_terms.specs.declared.words.Word.{Word}
@@ -15,7 +14,7 @@ use Rattle.bv_terms.specs.Terms.{Term, Number, Unary, Binary, Choose, Byte, Join
 use Rattle.bv_terms.specs.Making.{of_numbers, numbers_of, chosen_side, byte_of_join, byte_at, join_of_bytes, whole, bytes_of_term}
 use Rattle.bv_terms.specs.Graphs.{word_among, form_among, terms_of, IsBelow, IsGraph}
 use Rattle.bv_terms.proofs.SameLemmas.{are_same-are, are_same-themselves}
-use Rattle.bv_terms.proofs.ListLemmas.{get-below, get-is}
+use Rattle.bv_terms.proofs.ListLemmas.{get-below}
 use Rattle.bv_terms.proofs.GraphLemmas.{held, numbered-is, word-unique, below-more}
 
 -- a term of a graph is no number
@@ -75,15 +74,7 @@ pub side-none : (wide : Bool) (c a b : Term) → number_of c ≡ None → chosen
 side-none wide (Number n) a b e = number-none n e
 side-none wide _ a b e = refl
 
-pub no_choice : (terms : List Term) (form : Form) → ((wide : Bool) (c a b : Word) → form ≡ ChooseForm wide c a b → ⊥) → chosen_side (form_among terms form) ≡ None
-no_choice terms (ChooseForm wide c a b) other = absurd (other wide c a b refl)
-no_choice terms _ other = refl
-
 -- ---- no byte of a join
-
-pub no_byte : (terms : List Term) (form : Form) → ((a : Word) (i : ℕ) → form ≡ ByteForm a i → ⊥) → byte_of_join (form_among terms form) ≡ None
-no_byte terms (ByteForm a i) other = absurd (other a i refl)
-no_byte terms _ other = refl
 
 pub byte_no_join : (terms : List Term) (form : Form) (i : ℕ) → ((wide : Bool) (bytes : List Word) → form ≡ JoinForm wide bytes → ⊥) → byte_of_join (Byte (form_among terms form) i) ≡ None
 byte_no_join terms (JoinForm wide bytes) i other = absurd (other wide bytes refl)
@@ -101,10 +92,6 @@ byte_at-below bound (w ∷ ws) zero each = All-head (IsBelow bound) w ws each
 byte_at-below bound (w ∷ ws) (suc i) each = byte_at-below bound ws i (All-tail (IsBelow bound) w ws each)
 
 -- ---- no join of all bytes
-
-pub no_join : (terms : List Term) (form : Form) → ((wide : Bool) (bytes : List Word) → form ≡ JoinForm wide bytes → ⊥) → join_of_bytes (form_among terms form) ≡ None
-no_join terms (JoinForm wide bytes) other = absurd (other wide bytes refl)
-no_join terms _ other = refl
 
 -- whose first word is no byte
 pub first-number : (wide : Bool) (terms : List Term) (words : List Word) (first : Word) (n : ℕ) → slice_get words 0 ≡ Some first → first ≡ Num n
@@ -241,18 +228,6 @@ small-numbers terms (n ∷ ns) each =
 
 pub small : (terms : List Term) (words : List Word) (ns : List ℕ) → words ≡ map (λ n. Num n) ns → All (λ b. HasWidth 8 (word_among terms b)) words → All (λ n. n < 256) ns
 small terms words ns is each = small-numbers terms ns (subst (All (λ b. HasWidth 8 (word_among terms b))) is each)
-
--- so many numbers are filled in
-pub filled-more : (words : List Word) (all : List ℕ) (i n : ℕ) (w : Word) → i < length words → i < length all → take i words ≡ map (λ n. Num n) (take i all)
-    → slice_get words i ≡ Some w → w ≡ Num n → take (i + 1) words ≡ map (λ n. Num n) (take (i + 1) (slice_set all i n))
-filled-more words all i n w below within filled at is =
-    take_more words i w below
-    ∙ ap₂ (λ (xs ys : List Word). xs ++ ys) filled (ap (λ v. v ∷ []) (get-is words i w w at ∙ is))
-    ∙ sym (map-append (λ n. Num n) (take i all) (n ∷ []))
-    ∙ ap (map (λ n. Num n)) (sym (take_set all i n within))
-  where
-    take_set : (all : List ℕ) (i n : ℕ) → i < length all → take (i + 1) (slice_set all i n) ≡ take i all ++ n ∷ []
-    take_set all i n within = rw add-one (take-suc-set all i n within)
 
 -- ---- one byte of a word
 

@@ -36,9 +36,6 @@ pub record AreLooked (rounds values : List ℕ) (round : ℕ) (words : List Word
   pub known : (k : ℕ) → k < i → IsKnown rounds round (slice_index_or words k (Num 0))
   pub filled : take i (map (known_value values) words) ≡ take i all
 
-pub looked-none : (rounds values : List ℕ) (round : ℕ) (words : List Word) (all : List ℕ) → length all ≡ 8 → AreLooked rounds values round words all 0
-looked-none rounds values round words all room = record { room = room; known = λ k h. absurd (omega arith); filled = refl }
-
 pub looked-more : (rounds values : List ℕ) (round : ℕ) (words : List Word) (all : List ℕ) (i x : ℕ) → i < length words → length words ≤ 8 → AreLooked rounds values round words all i
     → IsKnown rounds round (slice_index_or words i (Num 0)) × (x ≡ known_value values (slice_index_or words i (Num 0)))
     → AreLooked rounds values round words (slice_set all i x) (i + 1)

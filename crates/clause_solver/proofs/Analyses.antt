@@ -1,11 +1,10 @@
 -- An analysis, a step at a time.
-use Rattle.std.proofs.Common.{◌≡◌, ◌≤◌, ◌+◌, ℕ, zero, suc, List, [], ◌∷◌, ◌++◌, length, drop, refl, sym, ap, ◌∙◌, arith, append_assoc}
+use Rattle.std.proofs.Common.{◌≡◌, ◌+◌, ℕ, zero, suc, List, [], ◌∷◌, ◌++◌, drop, refl, sym, ap, ◌∙◌, arith, append_assoc}
 use Rattle.std.specs.Prelude.{Some, Bool, true, false, if◌then◌else◌, slice_get}
 use Rattle.std.proofs.lemmas.List.{append-nil}
 use Rattle.refute_check.specs.Clauses.{Clause, variable_of}
 use Rattle.refute_check.specs.Logs.{after_step}
 use Rattle.refute_check.specs.Machine.{Entry, Trail, Learnt, stays, and_before, has_variable, resolved_with, by_reason, analysed}
-use Rattle.clause_solver.proofs.Statuses.{none_left}
 
 -- what is learnt, with these steps before
 abbrev pub after_these : List (ℕ × ℕ) → Learnt → Learnt
@@ -86,7 +85,3 @@ pub come_stuck : (cs : List Clause) (enough : Clause → Bool) (t : Trail) (firs
     (c ≡ (analysed cs enough t first).clause) × (steps ≡ (analysed cs enough t first).steps)
 come_stuck cs enough t first i c steps h e at f g k =
     come_end cs enough t first i c steps h (ap (λ u. analysed cs enough u c) (at_entry t i e at) ∙ stuck cs enough e (drop (i + 1) t) c f g k)
-
-pub come_all : (cs : List Clause) (enough : Clause → Bool) (t : Trail) (first : Clause) (i : ℕ) (c : Clause) (steps : List (ℕ × ℕ)) → HasCome cs enough t first i c steps → length t ≤ i →
-    (c ≡ (analysed cs enough t first).clause) × (steps ≡ (analysed cs enough t first).steps)
-come_all cs enough t first i c steps h l = come_end cs enough t first i c steps h (ap (λ u. analysed cs enough u c) (none_left t i l))

@@ -50,20 +50,8 @@ entry_some es v p x h n e =
     let g : get_or (reverse (reverse es)) (p - 1) x ≡ get_or es (p - 1) x = ap (λ es. get_or es (p - 1) x) (reverse-reverse es) in
     ap (λ x. Some x) (e ∙ sym g) ∙ sym (entry_there (reverse es) v (p - 1) x f)
 
--- a larger table says the same
-pub placed_kept : (t : Trail) (ps qs : List ℕ) → IsPlaced t ps → ((v : ℕ) → slice_index qs v ≡ slice_index ps v) → IsPlaced t qs
-placed_kept t ps qs h same = record { found = λ v. same v ∙ h.found v; once = h.once }
-
 other : (k v : ℕ) → (k == v) ≡ false → k ≢ v
 other k v h e = let f : (k == v) ≡ true = eq-eqb k v e in cc
-
--- one entry more
-pub placed_put : (t : Trail) (ps : List ℕ) (e : Entry) (k n : ℕ) → IsPlaced t ps → entry_of t (variable_of e.literal) ≡ None → k ≡ variable_of e.literal → k < length ps → n ≡ suc (length t) → IsPlaced (e ∷ t) (set ps k n)
-placed_put t ps e k n h new is l m = record { found = λ v. go v (variable_of e.literal == v) refl; once = (new, h.once) }
-  where
-    go : (v : ℕ) (b : Bool) → (variable_of e.literal == v) ≡ b → slice_index (set ps k n) v ≡ (if b then suc (length t) else place_of t v)
-    go v true f = let g : v ≡ k = sym (is ∙ eqb-true (variable_of e.literal) v f) in ap (λ v. slice_index (set ps k n) v) g ∙ get_or-set_same ps k n 0 l ∙ m
-    go v false f = get_or-set_other ps k v n 0 (λ g. other (variable_of e.literal) v f (sym (g ∙ is))) ∙ h.found v
 
 -- one entry less
 pub placed_off : (t : Trail) (ps : List ℕ) (e : Entry) (k : ℕ) → IsPlaced (e ∷ t) ps → k ≡ variable_of e.literal → k < length ps → IsPlaced t (set ps k 0)

@@ -1,7 +1,7 @@
 -- How far the machine has run.
-use Rattle.std.proofs.Common.{◌≡◌, ◌<◌, ◌≤◌, ◌*◌, ◌^◌, ℕ, suc, length, refl, sym, ◌∙◌, subst, arith}
+use Rattle.std.proofs.Common.{◌≡◌, ◌<◌, ◌≤◌, ℕ, suc, refl, sym, ◌∙◌, subst, arith}
 use Rattle.refute_check.specs.Machine.{State, Turn, On, turn, turns, start}
-use Rattle.refute_check.specs.Orders.{Names, NamesAll}
+use Rattle.refute_check.specs.Orders.{NamesAll}
 use Rattle.refute_check.specs.Rising.{Rises}
 use Rattle.refute_check.specs.declared.formulas.Cnf.{Cnf}
 use Rattle.refute_check.proofs.Turns.{turns_more}
@@ -34,7 +34,3 @@ run_on cnf bound s t h e =
 pub run_falls : (cnf : Cnf) (bound : ℕ) (s t : State) → HasRun cnf bound s → turn cnf.order bound s ≡ On t → weight cnf.order bound t < weight cnf.order bound s
 run_falls cnf bound s t h e =
     let l : Less cnf.order bound s (On t) = subst (λ x. Less cnf.order bound s x) e (turn-less cnf.order bound s h.named) in l.0
-
--- the variables are as many as the order has places
-pub small_variables : (cnf : Cnf) → IsFormula cnf → length cnf.order * 8 < 2 ^ 63 → (v : ℕ) → Names cnf.order v → v < 2 ^ 63
-small_variables cnf f l v n = let b : v ≤ cnf.vars = (f.only v n).1 in omega (arith, b, f.once, l)

@@ -4,7 +4,7 @@ use Rattle.std.specs.Prelude.{Option, Some, None}
 use Rattle.clause_solver.specs.Seen.{status_seen}
 use Rattle.clause_solver.specs.declared.rules.Status.{Status as OneStatus}
 use Rattle.clause_solver.specs.declared.rules.Status.TheVariants.{Falsified as IsFalsified, Forces as DoesForce, Idle as IsIdle}
-use Rattle.refute_check.specs.Machine.{Trail, True, Unset, value_of, Status, Falsified, Forces, Idle, status_with, status}
+use Rattle.refute_check.specs.Machine.{Trail, Unset, value_of, Status, Falsified, Forces, status_with, status}
 
 -- a status with an unset literal before
 abbrev pub with_unset : Option ℕ → Status → Status
@@ -33,16 +33,6 @@ none_left (x ∷ xs) (suc i) l = none_left xs i (omega (arith, l))
 
 pub status_at : (t : Trail) (c : List ℕ) (i : ℕ) → i < length c → status t (drop i c) ≡ status_with (value_of t (get_or c i 0)) (get_or c i 0) (status t (drop (i + 1) c))
 status_at t c i l = ap (λ c. status t c) (parts c i 0 l)
-
--- a true literal leaves nothing to do, and so do two unset ones
-pub seen_true : (o : Option ℕ) (l : ℕ) (s : Status) → with_unset o (status_with True l s) ≡ Idle
-seen_true None l s = refl
-seen_true (Some k) l s = refl
-
-pub seen_two : (k l : ℕ) (s : Status) → with_unset (Some k) (status_with Unset l s) ≡ Idle
-seen_two k l Falsified = refl
-seen_two k l (Forces m) = refl
-seen_two k l Idle = refl
 
 -- a status that isn't this one
 pub not_falsified : (s : OneStatus) → (s ≡ IsFalsified → ⊥) → status_seen s ≡ Falsified → ⊥

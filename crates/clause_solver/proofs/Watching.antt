@@ -11,9 +11,6 @@ use Rattle.refute_check.specs.Machine.{Entry, Trail, entry_of, Value, True, Fals
 use Rattle.refute_check.proofs.Membership.{apart}
 use Rattle.clause_solver.specs.Watching.{opposite, status_at, IsSeenAs, IsSeen, AreAmong, listed, Looked, Put, IsListed, AllSet}
 
-pub among_same : (ks ls : List ℕ) → ls ≡ ks → AreAmong ks ls
-among_same ks ls e = λ n h. ap (λ ls. has ls n) e ∙ h
-
 pub among_then : (ks ls ms : List ℕ) → AreAmong ks ls → AreAmong ls ms → AreAmong ks ms
 among_then ks ls ms a b = λ n h. b n (a n h)
 

@@ -76,11 +76,6 @@ unsigned_spells n width lt small = spells 9 width n (omega arith) small
 
 -- ---- none is shorter
 
-one_at_least : (more n : ℕ) → 1 ≤ length (unsigned_digits more n)
-unfolding unsigned_digits
-one_at_least zero n = omega arith
-one_at_least (suc more) n = elim (cases_lt n 128) [ inl lt ↦ rw (lt-ltb n 128 lt) (omega arith) | inr le ↦ rw (le-ltb n 128 le) (omega arith) ]
-
 shortest : (more width : ℕ) (text : List ℕ) (n : ℕ) → All (λ b. b < 256) text → SpellsUnsigned width text n → length (unsigned_digits more n) ≤ length text
 shortest more width [] n bytes s = absurd s
 shortest more width (b ∷ []) n bytes s = let lt : n < 128 = omega (arith, s.0, s.2) in rw (digits_one more n lt) (omega arith)
@@ -143,10 +138,6 @@ signed_bytes_more z lt le =
 pub distance_below : (width : ℕ) (z : ℤ) → HasBits width z → distance z < 2 ^ (width - 1)
 distance_below width (pos n) h = omega (arith, ints, h.0, h.1)
 distance_below width (negsuc n) h = omega (arith, ints, h.0, h.1)
-
-bits_of_distance : (width : ℕ) (z : ℤ) → distance z < 2 ^ (width - 1) → HasBits width z
-bits_of_distance width (pos n) lt = (omega (arith, ints), omega (arith, ints))
-bits_of_distance width (negsuc n) lt = (omega (arith, ints), omega (arith, ints))
 
 low_below : (z : ℤ) → low_bits z < 128
 low_below (pos n) = omega arith

@@ -29,9 +29,6 @@ high_fits width high low wide le lt small =
     let whole = seven_more width wide in
     omega (arith, more, whole)
 
-pub below_word : (width n : ℕ) → width ≤ 64 → n < 2 ^ width → n < 2 ^ 64
-below_word width n le lt = let more : 2 ^ width ≤ 2 ^ 64 = pow_mono {i = width} {j = 64} le in omega (arith, more)
-
 -- ---- the four ways to go on from a byte
 
 pub chosen : {X : Type 0} (b : Bool) (x y z : X) → cond b x y ≡ z → ((b ≡ true) × (x ≡ z)) ⊎ ((b ≡ false) × (y ≡ z))

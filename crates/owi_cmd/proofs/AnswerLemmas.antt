@@ -1,5 +1,5 @@
 -- Laws of what is answered.
-use Rattle.std.proofs.Common.{◌≡◌, ℕ, ◌≤◌, ◌<◌, ◌⊎◌, List, [], ◌∷◌, length, get_or, codes, Option, Some, None, Bool, true, false, inl, inr, refl, if◌then◌else◌, ◌∙◌, subst, lit≤, arith, All}
+use Rattle.std.proofs.Common.{◌≡◌, ℕ, ◌≤◌, ◌⊎◌, List, [], ◌∷◌, length, codes, Option, Some, None, Bool, true, false, inl, inr, refl, if◌then◌else◌, ◌∙◌, subst, lit≤, arith, All}
 use Rattle.std.proofs.lemmas.List.Elements.{All-from_recursion}
 use Rattle.std.specs.Prelude.{IfSome}
 use Rattle.std.specs.List.{list_any, AllZip, AllByRecursion}
@@ -72,10 +72,6 @@ ran name args options source NotYet bytes e = absurd (no_other NotYet e.ran.outc
 ran name args options source Entry bytes e = absurd (no_other Entry e.ran.outcome e.counted (λ i. cc) (λ i. cc))
 ran name args options source status bytes e = e
 
--- a run answers a source
-pub of_ran : (status : Status) (outcome : Outcome) → status ≡ status_of_run outcome → IsOfSource status
-of_ran status outcome is = elim (of_run outcome) [ inl found ↦ rw (is ∙ found) tt | inr done ↦ rw (is ∙ done) tt ]
-
 -- ---- what the words of a command give to the run
 
 -- an argument that a word spells refers to no function
@@ -114,10 +110,6 @@ run_can_run m name args options f spelled ready entry =
     let s : SpellsRun spelled.0 name args options = spelled.1 in
     let steps : (1 ≤ options.steps) × (options.steps ≤ 10000000) = in_range (codes "--steps") 1 10000000 1000000 options.steps s.chosen.steps (lit≤ tt) (lit≤ tt) s.chosen.are_steps in
     record { ready = ready; fit = entry.fits; refer = all_refer m s.arguments args s.argued; least = steps.0; most = steps.1 }
-
--- a report answers a source
-pub of_source : (status : Status) (rows : List Row) → status ≡ status_of rows → IsOfSource status
-of_source status rows is = elim (counted rows) [ inl found ↦ rw (is ∙ found) tt | inr done ↦ rw (is ∙ done) tt ]
 
 -- what is said of the whole of a source is said of what was left, where it is told
 told : (left : Option (List ℕ)) (source : List ℕ) (P : List ℕ → Type 0) → IfSome left (λ all. source ≡ all) → P source → IfSome left P

@@ -1,15 +1,13 @@
 -- Laws of what is answered to a source.
-use Rattle.std.proofs.Common.{◌≡◌, ℕ, inl, inr, List, Option, Some, None, refl, subst, sym, slice_get, codes, ◌++◌}
+use Rattle.std.proofs.Common.{◌≡◌, ℕ, inl, List, Option, Some, None, refl, subst, sym, slice_get, codes, ◌++◌}
 use Rattle.std.specs.Prelude.{IfSome, IsSomeAnd}
 use Rattle.wasm_binary.specs.Faults.{Fault, cut, magic, leb, byte, utf8, order, size, count, data_count, outside, locals}
 use Rattle.wasm_binary.specs.Modules.{BinaryFault}
 use Rattle.wasm_ast.specs.declared.modules.Import.{Import}
 use Rattle.wasm_ast.specs.declared.modules.Module.{Module}
-use Rattle.wasm_image.specs.declared.sizes.Large.{Large}
-use Rattle.wasm_image.specs.Hosts.{AreLinked, IsFirstUnlinked}
-use Rattle.wasm_image.specs.Sizes.{IsTooLarge}
+use Rattle.wasm_image.specs.Hosts.{IsFirstUnlinked}
 use Rattle.owi_cmd.specs.Report.{line, name_text}
-use Rattle.owi_cmd.specs.Faults.{fault_status, fault_text, large_text}
+use Rattle.owi_cmd.specs.Faults.{fault_status, fault_text}
 use Rattle.owi_cmd.specs.Sources.{IsText, IsRefused, AsksToRun, SpellsValid, AnswersShort, IsOfSource}
 use Rattle.owi_cmd.specs.declared.words.Command.{Command}
 use Rattle.owi_cmd.specs.declared.status.Status.{Status}
@@ -47,7 +45,3 @@ pub of_unlinked : (source : List ℕ) (m : Module) (number : ℕ) (import : Impo
 of_unlinked source m number import status bytes spelled first is counted written command run =
     let same : first.entry ≡ import = (let there = first.there in cc) in
     rw counted (run, record { spelled = m; is = spelled; number = number; first = first; written = rw same written })
-
-pub of_oversized : (source : List ℕ) (m : Module) (large : Large) (status : Status) (bytes : List ℕ) → SpellsValid source m → AreLinked m → IsTooLarge m large → status ≡ Limit → bytes ≡ line (large_text large) → (command : Command) → AsksToRun command → AnswersShort command source status bytes
-of_oversized source m large status bytes spelled linked first counted written command run =
-    rw counted (inr (inl (run, record { spelled = m; is = spelled; linked = linked; large = large; first = first; written = written })))

@@ -9,10 +9,8 @@ use Rattle.std.specs.List.{AllZip}
 use Rattle.std.specs.Prelude.{None, Some}
 use Rattle.wasm_ast.specs.declared.runs.Value.{Value}
 use Rattle.wasm_ast.specs.declared.runs.Value.TheVariants.{I32, I64, Func, Extern}
-use Rattle.owi_cmd.specs.Words.{IsNumber, IsWhole, IsInput, IsArgument, IsOption, IsOptionOf, AreOptions, AreRunOptions, Begins, SpellsExplore, SpellsRun, Spells}
+use Rattle.owi_cmd.specs.Words.{IsNumber, IsWhole, IsInput, IsArgument, IsOptionOf, AreOptions, AreRunOptions, Begins, SpellsExplore, SpellsRun}
 use Rattle.owi_cmd.specs.declared.report.Bounds.{Bounds}
-use Rattle.owi_cmd.specs.declared.words.Command.{Command}
-use Rattle.owi_cmd.specs.declared.words.Command.TheVariants.{Explore, Run, ConvertBinary, Validate}
 use Rattle.owi_cmd.specs.declared.words.RunOptions.{RunOptions}
 
 -- a test of the first word tells what two or more words are
@@ -48,22 +46,6 @@ SaysOne {X} P = (text : List ℕ) (x y : X) → P text x → P text y → y ≡ 
 -- what is read of a number is what it says
 pub one_number : (least most : ℕ) → SaysOne (IsNumber least most)
 one_number least most text n m one other = sym other.writes ∙ one.writes
-
--- texts say one list of things at most
-one_list : {X : Type 0} (P : List ℕ → X → Type 0) → SaysOne P → (texts : List (List ℕ)) (xs ys : List X) → AllZip P texts xs → AllZip P texts ys → ys ≡ xs
-one_list P one [] [] [] a b = refl
-one_list P one [] [] (y ∷ ys) a b = absurd b
-one_list P one [] (x ∷ xs) ys a b = absurd a
-one_list P one (t ∷ ts) [] ys a b = absurd a
-one_list P one (t ∷ ts) (x ∷ xs) [] a b = absurd b
-one_list P one (t ∷ ts) (x ∷ xs) (y ∷ ys) a b =
-    let first : y ≡ x = one t x y a.0 b.0 in
-    let others : ys ≡ xs = one_list P one ts xs ys a.1 b.1 in
-    rw (first, others) refl
-
-pub one_input : SaysOne IsInput
-one_input [] x y a b = b ∙ sym a
-one_input (byte ∷ text) x y a b = one_list (IsNumber 0 (2 ^ 64 - 1)) (one_number 0 (2 ^ 64 - 1)) _ x y a b
 
 module _ {X : Type 0} (P : List ℕ → X → Type 0) where
   -- words of an option don't begin with another name
@@ -157,66 +139,11 @@ after_conflicts : (words after rest : List (List ℕ)) (n : ℕ) → Given (code
 after_conflicts words after rest n g b o is =
     first_is Conflicts (one_number 1 1000000) (codes "--conflicts") 100000 n b.conflicts after g.0 rest o.conflicts [] g.1 g.2 g.3 o.are_conflicts (sym is ∙ sym (append-nil o.conflicts)) (begins_none (codes "--conflicts"))
 
-pub no_steps : (words : List (List ℕ)) → Bad (codes "--steps") 1 10000000 words → (b : Bounds) → ¬ AreOptions words b
-no_steps words bad b o = none_first Steps (codes "--steps") 1000000 b.steps words o.steps (o.forks ++ o.conflicts) bad.0 bad.1 o.are_steps (rw append_assoc at o.spelled) (steps_first words b o)
-
-pub no_forks : (words after : List (List ℕ)) (s : ℕ) → Given (codes "--steps") 1 10000000 1000000 words s after → Bad (codes "--forks") 0 64 after → (b : Bounds) → ¬ AreOptions words b
-no_forks words after s g bad b o =
-    none_first Forks (codes "--forks") 16 b.forks after o.forks o.conflicts bad.0 bad.1 o.are_forks (sym (after_steps words after s g b o).1) (forks_first words b o)
-
-pub no_conflicts : (words after later : List (List ℕ)) (s f : ℕ) → Given (codes "--steps") 1 10000000 1000000 words s after → Given (codes "--forks") 0 64 16 after f later → Bad (codes "--conflicts") 1 1000000 later → (b : Bounds) → ¬ AreOptions words b
-no_conflicts words after later s f g h bad b o =
-    none_first Conflicts (codes "--conflicts") 100000 b.conflicts later o.conflicts [] bad.0 bad.1 o.are_conflicts
-    (sym (after_forks words after later f h b o (after_steps words after s g b o).1).1 ∙ sym (append-nil o.conflicts)) (begins_none (codes "--conflicts"))
-
 pub no_more : (words after later rest : List (List ℕ)) (s f c : ℕ) → Given (codes "--steps") 1 10000000 1000000 words s after → Given (codes "--forks") 0 64 16 after f later → Given (codes "--conflicts") 1 1000000 100000 later c rest → (rest ≡ [] → ⊥) → (b : Bounds) → ¬ AreOptions words b
 no_more words after later rest s f c g h i some b o =
     some (sym (after_conflicts words later rest c i b o (after_forks words after later f h b o (after_steps words after s g b o).1).1).1)
 
-pub are_options : (words after later rest : List (List ℕ)) (s f c : ℕ) → Given (codes "--steps") 1 10000000 1000000 words s after → Given (codes "--forks") 0 64 16 after f later → Given (codes "--conflicts") 1 1000000 100000 later c rest → rest ≡ [] → AreOptions words (record { steps = s; forks = f; conflicts = c })
-are_options words after later rest s f c g h i none = record {
-  steps = g.0;
-  forks = h.0;
-  conflicts = i.0;
-  spelled = rw append_assoc (g.2 ∙ ap (λ r. g.0 ++ r) (h.2 ∙ ap (λ r. h.0 ++ r) (i.2 ∙ ap (λ r. i.0 ++ r) none ∙ append-nil i.0)));
-  are_steps = g.1;
-  are_forks = h.1;
-  are_conflicts = i.1;
-}
-
 -- ---- the options of `run`
-
-run_steps_first : (words : List (List ℕ)) (options : RunOptions) (o : AreRunOptions words options) → Begins (codes "--steps") o.input → ⊥
-run_steps_first words options o b =
-    other_begins IsInput (codes "--steps") (codes "--input") [] options.input o.input [] (letters_differ (codes "--steps") (codes "--input") 2 refl) o.are_input (begins_none (codes "--steps")) (rw (append-nil o.input) b)
-
-after_run_steps : (words rest : List (List ℕ)) (n : ℕ) → Given (codes "--steps") 1 10000000 1000000 words n rest → (b : RunOptions) (o : AreRunOptions words b) → (b.steps ≡ n) × (o.input ≡ rest)
-after_run_steps words rest n g b o =
-    first_is Steps (one_number 1 10000000) (codes "--steps") 1000000 n b.steps words g.0 rest o.steps o.input g.1 g.2 g.3 o.are_steps o.spelled (run_steps_first words b o)
-
-after_input : (words after rest : List (List ℕ)) (numbers : List ℕ) → GivenOf (codes "--input") IsInput [] after numbers rest → (b : RunOptions) (o : AreRunOptions words b) → o.input ≡ after → (b.input ≡ numbers) × ([] ≡ rest)
-after_input words after rest numbers g b o is =
-    first_is IsInput one_input (codes "--input") [] numbers b.input after g.0 rest o.input [] g.1 g.2 g.3 o.are_input (sym is ∙ sym (append-nil o.input)) (begins_none (codes "--input"))
-
-pub no_run_steps : (words : List (List ℕ)) → Bad (codes "--steps") 1 10000000 words → (b : RunOptions) → ¬ AreRunOptions words b
-no_run_steps words bad b o = none_first Steps (codes "--steps") 1000000 b.steps words o.steps o.input bad.0 bad.1 o.are_steps o.spelled (run_steps_first words b o)
-
-pub no_input : (words after : List (List ℕ)) (s : ℕ) → Given (codes "--steps") 1 10000000 1000000 words s after → BadOf (codes "--input") IsInput after → (b : RunOptions) → ¬ AreRunOptions words b
-no_input words after s g bad b o =
-    none_first IsInput (codes "--input") [] b.input after o.input [] bad.0 bad.1 o.are_input (sym (after_run_steps words after s g b o).1 ∙ sym (append-nil o.input)) (begins_none (codes "--input"))
-
-pub no_more_run : (words after rest : List (List ℕ)) (s : ℕ) (numbers : List ℕ) → Given (codes "--steps") 1 10000000 1000000 words s after → GivenOf (codes "--input") IsInput [] after numbers rest → (rest ≡ [] → ⊥) → (b : RunOptions) → ¬ AreRunOptions words b
-no_more_run words after rest s numbers g h some b o =
-    some (sym (after_input words after rest numbers h b o (after_run_steps words after s g b o).1).1)
-
-pub are_run_options : (words after rest : List (List ℕ)) (s : ℕ) (numbers : List ℕ) → Given (codes "--steps") 1 10000000 1000000 words s after → GivenOf (codes "--input") IsInput [] after numbers rest → rest ≡ [] → AreRunOptions words (record { steps = s; input = numbers })
-are_run_options words after rest s numbers g h none = record {
-  steps = g.0;
-  input = h.0;
-  spelled = g.2 ∙ ap (λ r. g.0 ++ r) (h.2 ∙ ap (λ r. h.0 ++ r) none ∙ append-nil h.0);
-  are_steps = g.1;
-  are_input = h.1;
-}
 
 -- ---- whole numbers
 
@@ -353,15 +280,6 @@ module _ (words own rest : List (List ℕ)) (name : List ℕ) (args : List Value
       let same : own ++ rest ≡ s.arguments ++ s.others = cc in
       let parts : (given ≡ args) × (s.others ≡ rest) = one_split own rest s.arguments s.others args given argued s.argued same none (no_more_run_arguments s.others b s.chosen) in
       bad b (rw parts.1 at s.chosen)
-
--- words that spell none of the four spell no command
-pub no_command : (words : List (List ℕ)) → (words ≡ codes "validate" ∷ [] → ⊥) → (words ≡ codes "convert" ∷ codes "binary" ∷ [] → ⊥) →
-    ((name : List ℕ) (args : List Value) (b : RunOptions) → ¬ SpellsRun words name args b) → ((name : List ℕ) (args : List Value) (b : Bounds) → ¬ SpellsExplore words name args b) →
-    (command : Command) → ¬ Spells words command
-no_command words validate convert run explore Validate spelled = validate spelled
-no_command words validate convert run explore ConvertBinary spelled = convert spelled
-no_command words validate convert run explore (Explore name args b) spelled = explore name args b spelled
-no_command words validate convert run explore (Run name args b) spelled = run name args b spelled
 
 -- a test of the first word tells whether the words begin with it
 pub begins_by : (words : List (Bor (List ℕ))) (d : Bor (List ℕ)) (name : List ℕ) (test : Bool) → 1 ≤ length words → test ≡ pointwise nat_eq (get_or words 0 d).now name → IsTrue test ↔ Begins name (map (λ w. w.now) words)

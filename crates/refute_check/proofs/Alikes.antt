@@ -10,12 +10,6 @@ use Rattle.refute_check.specs.Alike.{AreAlike, BothAlike, AllAlike}
 use Rattle.refute_check.specs.declared.logs.Chain.{Chain}
 use Rattle.refute_check.proofs.Membership.{has-joined, same_literal}
 
-pub alike_refl : (c : Clause) → AreAlike c c
-alike_refl c q = refl
-
-pub alike_trans : (c d e : Clause) → AreAlike c d → AreAlike d e → AreAlike c e
-alike_trans c d e h k q = h q ∙ k q
-
 joined-alike : (p n : ℕ) (c c' d d' : Clause) → AreAlike c c' → AreAlike d d' → AreAlike (joined p n c d) (joined p n c' d')
 joined-alike p n c c' d d' h k q =
     has-joined p n c d q ∙ ap (λ b. (b && not (q == p)) || (has d q && not (q == n))) (h q)
@@ -56,21 +50,6 @@ steps-alike cs ds all (s ∷ ss) c d h = then-alike (λ x. after_steps cs ss x) 
 pub result-alike : (cs ds : List Clause) → AllAlike cs ds → (chain : Chain) → BothAlike (result_of cs chain) (result_of ds chain)
 result-alike cs ds all chain = then-alike (λ x. after_steps cs chain.steps x) (λ x. after_steps ds chain.steps x) (λ x y k. steps-alike cs ds all chain.steps x y k) (slice_get cs chain.start) (slice_get ds chain.start) (all chain.start)
 
-pub both_refl : (o : Option Clause) → BothAlike o o
-both_refl None = tt
-both_refl (Some c) = λ q. refl
-
-pub both_trans : (o p r : Option Clause) → BothAlike o p → BothAlike p r → BothAlike o r
-both_trans None None None h k = tt
-both_trans None None (Some e) h k = k
-both_trans None (Some d) r h k = absurd h
-both_trans (Some c) None r h k = absurd h
-both_trans (Some c) (Some d) None h k = k
-both_trans (Some c) (Some d) (Some e) h k = λ q. h q ∙ k q
-
-pub all_refl : (cs : List Clause) → AllAlike cs cs
-all_refl cs k = both_refl (slice_get cs k)
-
 pub all_more : (cs ds : List Clause) → AllAlike cs ds → (c d : Clause) → AreAlike c d → AllAlike (cs ++ c ∷ []) (ds ++ d ∷ [])
 all_more [] [] all c d h zero = h
 all_more [] [] all c d h (suc k) = tt
@@ -83,10 +62,6 @@ all_more (x ∷ cs) (y ∷ ds) all c d h (suc k) = all_more cs ds (λ i. all (su
 pub empty_alike : (c : Clause) → AreAlike c [] → c ≡ []
 empty_alike [] h = refl
 empty_alike (k ∷ c) h = absurd (true≢false (sym (ap (λ b. b || has c k) (same_literal k)) ∙ h k))
-
-pub none_alike : (o : Option Clause) → BothAlike None o → o ≡ None
-none_alike None h = refl
-none_alike (Some c) h = absurd h
 
 pub some_alike : (c : Clause) (o : Option Clause) → BothAlike (Some c) o → (d : Clause) × (o ≡ Some d) × AreAlike c d
 some_alike c None h = absurd h

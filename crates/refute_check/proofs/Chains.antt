@@ -8,7 +8,7 @@ use Rattle.refute_check.specs.Logs.{after_step, after_steps, result_of}
 use Rattle.refute_check.specs.Alike.{AreAlike, BothAlike}
 use Rattle.refute_check.specs.declared.logs.Chain.{Chain}
 use Rattle.refute_check.proofs.Membership.{other_literal}
-use Rattle.refute_check.proofs.Alikes.{resolvent-alike, none_alike, some_alike}
+use Rattle.refute_check.proofs.Alikes.{resolvent-alike, some_alike}
 
 -- ---- one resolution
 
@@ -50,9 +50,6 @@ pub record HasCome (all : List Clause) (chain : Chain) (literals : Clause) (coun
 pub started : (all : List Clause) (chain : Chain) (first literals : Clause) → Some first ≡ slice_get all chain.start → AreAlike literals first → HasCome all chain literals 0
 started all chain first literals e h = record { clause = first; alike = h; rest = ap (λ o. option_and_then (λ c. after_steps all chain.steps c) o) (sym e) }
 
-pub not_started : (all : List Clause) (chain : Chain) → None ≡ slice_get all chain.start → BothAlike None (result_of all chain)
-not_started all chain e = subst (λ (o : Option Clause). BothAlike None o) (ap (λ o. option_and_then (λ c. after_steps all chain.steps c) o) e) tt
-
 next : (all : List Clause) (chain : Chain) (literals : Clause) (count : ℕ) (h : HasCome all chain literals count) (ss : List (ℕ × ℕ)) → ss ≡ chain.steps → (s d : ℕ × ℕ) → count < length ss → get_or ss count d ≡ s →
     result_of all chain ≡ option_and_then (λ x. after_steps all (drop (count + 1) chain.steps) x) (after_step all s h.clause)
 next all chain literals count h ss same s d l e = h.rest ∙ ap (λ ss. after_steps all ss h.clause) (ap (λ ss. drop count ss) (sym same) ∙ parts ss count s d l e ∙ later ∙ ap (λ ss. s ∷ drop (count + 1) ss) same)
@@ -72,13 +69,6 @@ pub unknown : (all : List Clause) (chain : Chain) (literals : Clause) (count : �
     None ≡ slice_get all s.0 → BothAlike None (result_of all chain)
 unknown all chain literals count h ss same s d l e f =
     let t : after_step all s h.clause ≡ None = ap (λ o. option_and_then (λ x. resolvent h.clause x s.1) o) (sym f) in
-    subst (λ (o : Option Clause). BothAlike None o) (sym (next all chain literals count h ss same s d l e ∙ ap (λ o. option_and_then (λ x. after_steps all (drop (count + 1) chain.steps) x) o) t)) tt
-
-pub unfit : (all : List Clause) (chain : Chain) (literals : Clause) (count : ℕ) → HasCome all chain literals count → (ss : List (ℕ × ℕ)) → ss ≡ chain.steps → (s d : ℕ × ℕ) → count < length ss → get_or ss count d ≡ s →
-    (other : Clause) → Some other ≡ slice_get all s.0 → resolvent literals other s.1 ≡ None → BothAlike None (result_of all chain)
-unfit all chain literals count h ss same s d l e other f g =
-    let r : resolvent h.clause other s.1 ≡ None = none_alike _ (subst (λ o. BothAlike o (resolvent h.clause other s.1)) g (resolvent-alike literals h.clause other other s.1 h.alike (λ q. refl))) in
-    let t : after_step all s h.clause ≡ None = ap (λ o. option_and_then (λ x. resolvent h.clause x s.1) o) (sym f) ∙ r in
     subst (λ (o : Option Clause). BothAlike None o) (sym (next all chain literals count h ss same s d l e ∙ ap (λ o. option_and_then (λ x. after_steps all (drop (count + 1) chain.steps) x) o) t)) tt
 
 pub goes_on : (all : List Clause) (chain : Chain) (literals after : Clause) (count : ℕ) → HasCome all chain literals count → (ss : List (ℕ × ℕ)) → ss ≡ chain.steps → (s d : ℕ × ℕ) → count < length ss → get_or ss count d ≡ s →

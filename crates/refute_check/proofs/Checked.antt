@@ -1,14 +1,14 @@
 -- How far a log is checked.
-use Rattle.std.proofs.Common.{◌≡◌, ◌<◌, ◌≤◌, ◌+◌, ℕ, zero, suc, List, [], ◌∷◌, ◌++◌, length, take, get_or, refl, sym, ap, ◌∙◌, subst, arith, append_assoc, ◌↔◌}
+use Rattle.std.proofs.Common.{◌≡◌, ◌<◌, ◌+◌, ℕ, zero, suc, List, [], ◌∷◌, ◌++◌, length, take, get_or, refl, sym, ap, ◌∙◌, subst, arith, append_assoc, ◌↔◌}
 use Rattle.std.specs.Prelude.{Option, Some, None, Bool, true, false, IsTrue, MatchBool, slice_get}
 use Rattle.std.proofs.lemmas.Bool.{true≢false}
-use Rattle.std.proofs.lemmas.List.{take_more, append-nil}
+use Rattle.std.proofs.lemmas.List.{take_more}
 use Rattle.refute_check.specs.Clauses.{Clause}
 use Rattle.refute_check.specs.Resolution.{has}
-use Rattle.refute_check.specs.Logs.{result_of, Leads, IsAccepted, FailsAt, EndsOpen}
+use Rattle.refute_check.specs.Logs.{result_of, Leads, IsAccepted, FailsAt}
 use Rattle.refute_check.specs.Alike.{AreAlike, BothAlike, AllAlike}
 use Rattle.refute_check.specs.declared.logs.Chain.{Chain}
-use Rattle.refute_check.proofs.Alikes.{result-alike, all_refl, all_more, empty_alike}
+use Rattle.refute_check.proofs.Alikes.{result-alike, all_more, empty_alike}
 use Rattle.refute_check.proofs.Exclusion.{leads_more}
 
 -- so many chains resolve to these results, in some order of their literals
@@ -17,13 +17,6 @@ pub record HasChecked (clauses : List Clause) (log : List Chain) (results : List
   pub leads : Leads clauses (take count log) all
   pub alike : AllAlike all (clauses ++ results)
   pub end : MatchBool closed (IsAccepted clauses (take count log)) (IsAccepted clauses (take count log) → ⊥)
-
-no_end : (front : List Chain) (last : Chain) → [] ≡ front ++ last ∷ [] → ⊥
-no_end [] last e = cc
-no_end (x ∷ front) last e = cc
-
-pub checked_none : (cs : List Clause) (log : List Chain) → HasChecked cs log [] false 0
-checked_none cs log = record { all = cs; leads = refl; alike = subst (λ ds. AllAlike cs ds) (sym (append-nil cs)) (all_refl cs); end = λ h. no_end h.front h.last h.ends }
 
 some_back : (c : Clause) (o : Option Clause) → BothAlike (Some c) o → (p : Option Clause) → BothAlike p o → (r : Clause) × (p ≡ Some r) × AreAlike r c
 some_back c None h p k = absurd h
@@ -104,21 +97,3 @@ checked_more cs log results closed count h chain d l e clause s empty is =
     go : (b : Bool) → (IsTrue b ↔ (clause ≡ [])) → MatchBool b (IsAccepted cs (take (count + 1) log)) (IsAccepted cs (take (count + 1) log) → ⊥)
     go true is = closes (is.0 refl)
     go false is = λ a. true≢false (sym (is.1 (open_still a)))
-
-take-all : (log : List Chain) (count : ℕ) → length log ≤ count → take count log ≡ log
-take-all [] zero l = refl
-take-all [] (suc n) l = refl
-take-all (x ∷ log) zero l = absurd (omega (arith, l))
-take-all (x ∷ log) (suc n) l = ap (λ log. x ∷ log) (take-all log n (omega (arith, l)))
-
-pub checked_closed : (cs : List Clause) (log : List Chain) (results : List Clause) (closed : Bool) (count : ℕ) → HasChecked cs log results closed count → length log ≤ count → closed ≡ true → IsAccepted cs log
-checked_closed cs log results closed count h l e =
-    subst (λ log. IsAccepted cs log) (take-all log count l) (subst (λ b. MatchBool b (IsAccepted cs (take count log)) (IsAccepted cs (take count log) → ⊥)) e h.end)
-
-pub checked_open : (cs : List Clause) (log : List Chain) (results : List Clause) (closed : Bool) (count : ℕ) → HasChecked cs log results closed count → length log ≤ count → closed ≡ false → EndsOpen cs log
-checked_open cs log results closed count h l e =
-    subst (λ log. EndsOpen cs log) (take-all log count l) (record {
-      all = h.all;
-      leads = h.leads;
-      open_ended = subst (λ b. MatchBool b (IsAccepted cs (take count log)) (IsAccepted cs (take count log) → ⊥)) e h.end;
-    })

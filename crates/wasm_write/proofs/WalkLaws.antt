@@ -2,7 +2,7 @@
 use Rattle.std.proofs.Common.{◌≡◌, ℕ, ◌+◌, ◌<◌, ◌≤◌, List, [], ◌∷◌, ◌++◌, length, drop, get_or, Option, Some, refl, sym, ap, ◌∙◌, append-nil, append_assoc, arith, length-append}
 use Rattle.std.specs.Prelude.{slice_get}
 use Rattle.std.specs.List.{flat_map, AllByRecursion as ByRecursion}
-use Rattle.std.proofs.lemmas.List.{drop_more, drop_all, get_or_read}
+use Rattle.std.proofs.lemmas.List.{drop_more, get_or_read}
 use Rattle.std.proofs.lemmas.Option.{slice_get-get_or}
 use Rattle.wasm_ast.specs.Numbering.{named_by, IsNumbered}
 use Rattle.wasm_ast.specs.declared.instructions.Instr.{Instr}
@@ -21,10 +21,6 @@ front_and_tail text (Block ty body) = append_assoc (0x02 ∷ block_type_bytes ty
 front_and_tail text (Loop ty body) = append_assoc (0x03 ∷ block_type_bytes ty) (text body) (0x0B ∷ [])
 front_and_tail text (If ty first other) = simp append_assoc refl
 front_and_tail text x = sym (append-nil (front_bytes x))
-
-pub front_some : (x : Instr) → 0 < length (front_bytes x)
-front_some (Block ty body) = omega arith
-front_some x = omega arith
 
 -- no text where there are no instructions, and some where there are
 pub empty_text : (seqs : List (List Instr)) (j : ℕ) → IsNumbered seqs → j < length seqs → get_or seqs j [] ≡ [] → text_of 0 seqs j ≡ []
@@ -60,11 +56,6 @@ next_left seqs o x outer lt is =
     ∙ ap (λ t. t ++ rest ++ after) (front_and_tail text x)
     ∙ append_assoc (front_bytes x ++ tail_bytes text x) rest after
     ∙ append_assoc (front_bytes x) (tail_bytes text x) (rest ++ after)
-
--- no instruction is left
-pub end_left : (seqs : List (List Instr)) (o : Open) (outer : List Open) → length (get_or seqs o.seq []) ≤ o.at → left seqs (o ∷ outer) ≡ ending (text_of 0 seqs) o.other ++ left seqs outer
-end_left seqs o outer le =
-    ap (λ l. flat_map (instr_bytes (text_of 0 seqs)) l ++ (ending (text_of 0 seqs) o.other ++ left seqs outer)) (drop_all o.at (get_or seqs o.seq []) le)
 
 -- the sequences inside an instruction are there
 pub inside_there : (seqs : List (List Instr)) (k i : ℕ) (x : Instr) → IsNumbered seqs → k < length seqs → i < length (get_or seqs k []) → x ≡ get_or (get_or seqs k []) i x → ByRecursion (λ j. j < length seqs) (named_by x)
