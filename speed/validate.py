@@ -253,6 +253,8 @@ MODULES = [
     ("one data segment", data),
     ("custom sections", lambda: sections() + b"\0\x02\x01a" * (SIZE // 4)),
     ("one custom section", lambda: sections((0, b"\x01a" + bytes(SIZE)))),
+    ("custom sections with names of 100 bytes", lambda: sections() + (b"\0" + sized(sized("é".encode() * 50))) * (SIZE // 103)),
+    ("one custom section that is a name", lambda: sections((0, sized("é".encode() * (SIZE // 2))))),
     ("groups of locals", groups),
     ("nop", lambda: repeated(b"\x01")),
     ("unreachable", lambda: repeated(b"\x00")),

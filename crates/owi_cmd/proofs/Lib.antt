@@ -2,3 +2,4 @@ pub mod AnswerLemmas
 pub mod ReportLemmas
 pub mod WordsLemmas
 pub mod SourceLemmas
+pub mod StrippedLemmas

@@ -82,8 +82,8 @@ fn not_ready(alloc: Global, source: &[u8], image: &Image) -> Result<Option<Writt
     Ok(None)
 }
 
-// What is said of a fault.
-fn invalid(alloc: Global, why: Why) -> Result<Written, AllocError>
+/// What is said of a fault.
+pub fn invalid(alloc: Global, why: Why) -> Result<Written, AllocError>
     ensures known { IfOk result (λ _. why ≢ Why.NoMemory) }
     ensures status { IfOk result (λ w. w.status ≡ Status.Invalid) }
     ensures bytes { IfOk result (λ w. w.bytes.items ≡ line (why_text why)) }

@@ -2,7 +2,9 @@
 ghost use Rattle.std.specs.Prelude.{◌≡◌, ◌↔◌, ◌++◌, IsTrue, IfOk, IfErr, IsSomeAnd, codes, decimal};
 ghost use Rattle.wasm_ast.specs.Shape.{HasShape};
 ghost use Rattle.wasm_binary.specs.Modules.{IsBinary};
+ghost use Rattle.wasm_ast.specs.declared.modules.Module.{Module as OneModule};
 ghost use Rattle.wasm_read.specs.Refusals.{fault_of};
+ghost use Rattle.wasm_read.specs.Stripped.{stripped};
 ghost use Rattle.owi_cmd.specs.Report.{line};
 ghost use Rattle.owi_cmd.specs.Faults.{fault_status, fault_text};
 ghost use Rattle.owi_cmd.specs.Sources.{IsText as HasText, AnswersShort, IsOfSource};
@@ -12,7 +14,7 @@ use crate::status::Status;
 use crate::written::Written;
 use std::alloc::{AllocError, Global};
 use wasm_ast::Module;
-use wasm_read::{ReadBad, read_module};
+use wasm_read::{ReadBad, read_module, read_stripped};
 
 /// The module that the source spells, or what every command answers where it spells none, or isn't read yet.
 pub fn read_source(alloc: Global, source: &[u8]) -> Result<Result<Module, Written>, AllocError>
@@ -25,6 +27,26 @@ pub fn read_source(alloc: Global, source: &[u8]) -> Result<Result<Module, Writte
         return Ok(Err(not_yet(alloc)?));
     }
     match read_module(alloc, source) {
+        Ok(m) => Ok(Ok(m)),
+        Err(bad) => Ok(Err(refused(alloc, bad)?)),
+    }
+}
+
+/// The module that the source spells, without its custom sections, or what every command answers where it spells none, or
+/// isn't read yet.
+pub fn read_stripped_source(
+    alloc: Global,
+    source: &[u8],
+) -> Result<Result<Module, Written>, AllocError>
+    ensures spelled { IfOk result (λ read. IfOk read (λ m. (whole : OneModule) × IsBinary whole source.now × (m ≡ stripped whole))) }
+    ensures shape { IfOk result (λ read. IfOk read HasShape) }
+    ensures refused { IfOk result (λ read. IfErr read (λ w. (command : OneCommand) → AnswersShort command source.now w.status w.bytes.items)) }
+    ensures drained { IfOk result (λ read. IfErr read (λ w. IsOfSource w.status)) }
+{
+    if is_text(source) {
+        return Ok(Err(not_yet(alloc)?));
+    }
+    match read_stripped(alloc, source) {
         Ok(m) => Ok(Ok(m)),
         Err(bad) => Ok(Err(refused(alloc, bad)?)),
     }

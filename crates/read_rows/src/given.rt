@@ -4,7 +4,7 @@ ghost use Rattle.std.specs.Prelude.{◌+◌, ◌<◌, length};
 use std::alloc::{AllocError, Global};
 use std::process::Abort;
 use wasm_ast::Module;
-use wasm_read::{ReadBad, read_module};
+use wasm_read::{ReadBad, read_module, read_stripped};
 
 /// The magic number and the version.
 pub const FRONT: [u8; 8] = [0x00, 0x61, 0x73, 0x6D, 0x01, 0x00, 0x00, 0x00];
@@ -42,10 +42,17 @@ pub fn before_code(alloc: Global, rest: &[u8]) -> Result<Vec<u8>, AllocError> {
     joined(alloc, BEFORE_CODE.as_slice(), rest)
 }
 
-/// These bytes are refused, with this trouble.
+/// These bytes are refused, with this trouble, whether custom sections are kept or not.
 pub fn refused(rt: &impl Abort, alloc: Global, bytes: &[u8], trouble: ReadBad) {
     match read_module(alloc, bytes) {
         Ok(_) => assert!(rt; false, "read, and not refused with {trouble}"),
+        Err(told) => assert_eq!(rt; told, trouble),
+    }
+    match read_stripped(alloc, bytes) {
+        Ok(_) => assert!(rt;
+            false,
+            "read without custom sections, and not refused with {trouble}"
+        ),
         Err(told) => assert_eq!(rt; told, trouble),
     }
 }

@@ -9,7 +9,7 @@ use wasm_ast::{
     BlockType, Export, Expr, Func, FuncType, Group, Instr, Limits, List, Mode, Module, Space, Text,
     ValType, has_shape, same,
 };
-use wasm_read::read_module;
+use wasm_read::{read_module, read_stripped};
 
 fn none<T>(alloc: Global) -> List<T> {
     List::new(Vec::new(alloc))
@@ -114,6 +114,27 @@ fn customs_stand_after_written_sections(rt: HostRuntime) -> Result<(), Fail> {
     assert_eq!(rt; custom.after, 11);
     assert_eq!(rt; custom.name.as_slice(), "producers");
     assert_eq!(rt; custom.bytes.as_slice(), [0x00].as_slice());
+    Ok(())
+}
+
+#[test]
+fn stripped_modules_have_no_customs(rt: HostRuntime) -> Result<(), Fail> {
+    let alloc = rt.alloc();
+    // The module of a function, with a custom section before its code and one after it.
+    let bytes = before_code(
+        alloc,
+        [
+            0x00, 0x03, 0x01, 0x61, 0x07, 0x0A, 0x06, 0x01, 0x04, 0x00, 0x41, 0x05, 0x0B, 0x00,
+            0x02, 0x01, 0x62,
+        ]
+        .as_slice(),
+    )?;
+    let mut module = read_module(alloc, bytes.as_slice())?;
+    assert_eq!(rt; module.customs.len(), 2);
+    let stripped = read_stripped(alloc, bytes.as_slice())?;
+    assert!(rt; !same(&stripped, &module));
+    module.customs = none(alloc);
+    assert!(rt; same(&stripped, &module));
     Ok(())
 }
 

@@ -4,6 +4,7 @@ pub mod ByteLaws
 pub mod EntryLaws
 pub mod GroupLaws
 pub mod NestLaws
+pub mod PassingLaws
 pub mod ReadingLaws
 pub mod SectionLaws
 pub mod ShapeOfBodies

@@ -48,6 +48,10 @@ sized_read s id w inner at len start end t next e place is f same =
     sized_is s id w at len start (ok t next) e (seen s id w inner len start end (ok t next) place is f)
     ∙ taken (next == (start + len)) (ok t next) (err (left_over size (up_to size w (start + len)) next)) (eq-eqb next (start + len) (same ∙ place))
 
+pub sized_told : (s : Sections) (id : ℕ) (w inner : Window Fault) (at len start end : ℕ) (fault : Fault) → u32.read w at ≡ Ok (len, start) → end ≡ start + len → inner ≡ up_to size w end
+    → (contents s id len).read inner start ≡ Err fault → (sized_contents s id).read w at ≡ Err fault
+sized_told s id w inner at len start end fault e place is f = sized_is s id w at len start (err fault) e (seen s id w inner len start end (err fault) place is f)
+
 -- ---- one section after another
 
 -- a section has a byte
@@ -91,8 +95,3 @@ section_told w s at all None lt is h = h
 -- no section is left
 pub sections_counted : (w : Window Fault) (s : Sections) (at : ℕ) (all answer : Result Module Fault) → length w.bytes ≤ at → all ≡ all_sections w s at → counted s at ≡ answer → all ≡ answer
 sections_counted w s at all answer le is h = is ∙ end (length w.bytes) w s at le ∙ h
-
-pub counts_told : (w : Window Fault) (s : Sections) (at : ℕ) (all : Result Module Fault) (o : Option Fault) → length w.bytes ≤ at → all ≡ all_sections w s at
-    → IfSome o (λ fault. counted s at ≡ Err fault) → IfSome o (λ fault. all ≡ Err fault)
-counts_told w s at all (Some fault) le is h = sections_counted w s at all (Err fault) le is h
-counts_told w s at all None le is h = h

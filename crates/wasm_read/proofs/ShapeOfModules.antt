@@ -26,6 +26,7 @@ use Rattle.wasm_binary.specs.Types.{func_type, limits, table_type, global_type, 
 use Rattle.wasm_binary.specs.Parts.{constant, import_kind, import, global, export, flag_below, active_on, active, elem_mode, elem_kind, func_item, elem, data_mode, segment}
 use Rattle.wasm_binary.specs.Locals.{Code, code}
 use Rattle.wasm_binary.specs.Modules.{Sections, no_sections, slot_of, next_id, same_count, same_as_announced, custom, code_section, data_section, into, contents, section, sections, funcs_of, without_customs, last_written, settled, module_of, IsBinary}
+use Rattle.wasm_read.specs.Stripped.{stripped}
 use Rattle.wasm_read.proofs.ShapeOfLists.{AreBytes, AreFew, bytes_of, Says, gives_says, then_says, any_says, checked_says, when_says, Any, AllShort, IsU32, u32_small, u32_says, AreMany, many_says, vec_says, name_says, ref_type_says, table_type_says, func_type_says}
 use Rattle.wasm_read.proofs.ShapeOfBodies.{none_laid, numbered}
 use Rattle.wasm_read.proofs.ShapeOfExpressions.{expression_says}
@@ -601,15 +602,41 @@ module_shape s have few = record {
   };
 }
 
+-- the sections that bytes spell have their shape
+spelled_have : (m : Module) (bytes : List ℕ) → AreBytes bytes → (is : IsBinary m bytes) → SectionsHaveShape is.all
+spelled_have m bytes are is =
+    let sp = is.spelled in
+    let parts = bytes_of bytes sp.1 sp.2 sp.3 are in
+    sections_say is.section_count no_sections is.all sp.2 parts.1 no_sections_have sp.5
+
 -- what bytes spell has its shape
 pub binary_shape : (m : Module) (bytes : List ℕ) → AreBytes bytes → IsBinary m bytes → length m.customs < 2 ^ 32 → HasShape m
 binary_shape m bytes are is few =
-    let sp = is.spelled in
-    let parts = bytes_of bytes sp.1 sp.2 sp.3 are in
-    let have = sections_say is.section_count no_sections is.all sp.2 parts.1 no_sections_have sp.5 in
     let P : Module → Type 0 = λ n. length n.customs < 2 ^ 32 in
     let less = subst P is.is few in
-    subst HasShape (sym is.is) (module_shape is.all have (omega (arith, less, length-map is.all.customs (settled (without_customs is.all)))))
+    subst HasShape (sym is.is) (module_shape is.all (spelled_have m bytes are is) (omega (arith, less, length-map is.all.customs (settled (without_customs is.all)))))
+
+-- and without custom sections, however many there are
+pub stripped_shape : (m : Module) (bytes : List ℕ) → AreBytes bytes → IsBinary m bytes → HasShape (stripped m)
+stripped_shape m bytes are is =
+    let bare : Sections = record is.all { customs = [] } in
+    subst (λ n. HasShape (stripped n)) (sym is.is) (module_shape bare (bare_have is.all (spelled_have m bytes are is)) (omega arith))
+  where
+    bare_have : (s : Sections) → SectionsHaveShape s → SectionsHaveShape (record s { customs = [] })
+    bare_have s have = record {
+      types = have.types;
+      imports = have.imports;
+      type_indices = have.type_indices;
+      tables = have.tables;
+      memories = have.memories;
+      globals = have.globals;
+      exports = have.exports;
+      elems = have.elems;
+      segments = have.segments;
+      codes = have.codes;
+      customs = All-nil (CustomIsAt s.slot);
+      in_order = none_in_order;
+    }
 
 pub are_bytes : (bytes : List ℕ) → ((i : ℕ) → get_or bytes i 0 < 256) → AreBytes bytes
 are_bytes [] h = tt

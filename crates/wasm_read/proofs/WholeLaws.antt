@@ -1,5 +1,5 @@
 -- What a reader of all bytes answers is what the grammar says.
-use Rattle.std.proofs.Common.{◌≡◌, ℕ, suc, ◌^◌, ◌<◌, ◌⊎◌, inl, inr, List, length, Result, Ok, Err, Option, Some, None, IfOk, IfSome, refl, sym, ap, subst, ◌∙◌, arith, get_or}
+use Rattle.std.proofs.Common.{◌≡◌, ℕ, suc, ◌^◌, ◌<◌, ◌⊎◌, inl, inr, List, length, Bool, true, false, Result, Ok, Err, Option, Some, None, IfOk, IfSome, refl, sym, ap, subst, ◌∙◌, arith, get_or}
 use Rattle.std.specs.Prelude.{IfErr, IsErrAnd}
 use Rattle.wasm_ast.specs.declared.modules.Module.{Module}
 use Rattle.wasm_ast.specs.Shape.{HasShape}
@@ -11,8 +11,9 @@ use Rattle.wasm_binary.proofs.BinaryLaws.{binary_sound, binary_complete, binary_
 use Rattle.wasm_read.specs.declared.bad.ReadBad.{ReadBad}
 use Rattle.wasm_read.specs.declared.bad.ReadBad.TheVariants.{Cut, Magic, Leb, Byte, Utf8, Order, Size, Count, DataCount, Outside, Locals, NoMemory}
 use Rattle.wasm_read.specs.Refusals.{fault_of}
+use Rattle.wasm_read.specs.Stripped.{stripped, told}
 use Rattle.wasm_read.specs.Wholes.{Answers}
-use Rattle.wasm_read.proofs.ShapeOfModules.{binary_shape, are_bytes}
+use Rattle.wasm_read.proofs.ShapeOfModules.{binary_shape, stripped_shape, are_bytes}
 
 -- ---- the front and the sections
 
@@ -39,17 +40,21 @@ sections_told bytes x at None e h = h
 
 -- ---- the statements
 
-pub spelled : (bytes : List ℕ) (r : Result Module ReadBad) → Answers (read_binary bytes) r → IfOk r (λ m. IsBinary m bytes)
-spelled bytes (Ok m) h = binary_sound bytes m h
+pub spelled : (bytes : List ℕ) (r : Result Module ReadBad) → Answers true (read_binary bytes) r → IfOk r (λ m. IsBinary m bytes)
+spelled bytes (Ok m) h = subst (λ n. IsBinary n bytes) (sym h.2) (binary_sound bytes h.0 h.1)
 spelled bytes (Err bad) h = tt
+
+pub stripped_spelled : (bytes : List ℕ) (r : Result Module ReadBad) → Answers false (read_binary bytes) r → IfOk r (λ told. (m : Module) × IsBinary m bytes × (told ≡ stripped m))
+stripped_spelled bytes (Ok m) h = (h.0, binary_sound bytes h.0 h.1, h.2)
+stripped_spelled bytes (Err bad) h = tt
 
 named : (bytes : List ℕ) (o : Option Fault) → IfSome o (λ fault. read_binary bytes ≡ Err fault) → IfSome o (BinaryFault bytes)
 named bytes (Some fault) h = binary_named bytes fault h
 named bytes None h = tt
 
-pub trouble : (bytes : List ℕ) (r : Result Module ReadBad) → Answers (read_binary bytes) r → IfErr r (λ bad. IfSome (fault_of bad) (BinaryFault bytes))
-trouble bytes (Ok m) h = tt
-trouble bytes (Err bad) h = named bytes (fault_of bad) h
+pub trouble : (keeps : Bool) (bytes : List ℕ) (r : Result Module ReadBad) → Answers keeps (read_binary bytes) r → IfErr r (λ bad. IfSome (fault_of bad) (BinaryFault bytes))
+trouble keeps bytes (Ok m) h = tt
+trouble keeps bytes (Err bad) h = named bytes (fault_of bad) h
 
 abbrev ok : Module → Answer
 ok m = Ok m
@@ -57,8 +62,8 @@ ok m = Ok m
 abbrev err : Fault → Answer
 err fault = Err fault
 
-same_module : (given : Answer) (m n : Module) → given ≡ Ok m → given ≡ Ok n → (let r : Result Module ReadBad = Ok m in r) ≡ Ok n
-same_module given m n e f = let both : ok m ≡ ok n = sym e ∙ f in let same : m ≡ n = cc in ap (λ x. let r : Result Module ReadBad = Ok x in r) same
+same_module : (given : Answer) (m n : Module) → given ≡ Ok m → given ≡ Ok n → m ≡ n
+same_module given m n e f = let both : ok m ≡ ok n = sym e ∙ f in cc
 
 never : (given : Answer) (m : Module) (fault : Fault) → given ≡ Ok m → given ≡ Err fault → ⊥
 never given m fault e f = let both : ok m ≡ err fault = sym e ∙ f in cc
@@ -81,9 +86,11 @@ wanting NoMemory h = refl
 at_some : (P : Fault → Type 0) (o : Option Fault) (fault : Fault) → o ≡ Some fault → IfSome o P → P fault
 at_some P o fault is h = let Q : Option Fault → Type 0 = λ p. IfSome p P in subst Q is h
 
-pub only : (bytes : List ℕ) (r : Result Module ReadBad) → Answers (read_binary bytes) r → (m : Module) → IsBinary m bytes → (r ≡ Ok m) ⊎ (r ≡ Err NoMemory)
-only bytes (Ok n) h m is = inl (same_module (read_binary bytes) n m h (binary_complete bytes m is))
-only bytes (Err bad) h m is =
+pub only : (keeps : Bool) (bytes : List ℕ) (r : Result Module ReadBad) → Answers keeps (read_binary bytes) r → (m : Module) → IsBinary m bytes → (r ≡ Ok (told keeps m)) ⊎ (r ≡ Err NoMemory)
+only keeps bytes (Ok n) h m is =
+    let same : h.0 ≡ m = same_module (read_binary bytes) h.0 m h.1 (binary_complete bytes m is) in
+    inl (ap (λ x. let r : Result Module ReadBad = Ok x in r) (h.2 ∙ ap (told keeps) same))
+only keeps bytes (Err bad) h m is =
     let none : bad ≡ NoMemory =
     wanting bad (λ fault told. never (read_binary bytes) m fault (binary_complete bytes m is) (at_some (λ f. read_binary bytes ≡ Err f) (fault_of bad) fault told h))
     in
@@ -100,9 +107,9 @@ one_told bytes None fault h e = inr refl
 some_is_not_none : (fault : Fault) (o : Option Fault) → o ≡ Some fault → o ≡ None → ⊥
 some_is_not_none fault o e f = cc
 
-pub first : (bytes : List ℕ) (r : Result Module ReadBad) → Answers (read_binary bytes) r → (fault : Fault) → BinaryFault bytes fault → IsErrAnd r (λ bad. (fault_of bad ≡ Some fault) ⊎ (bad ≡ NoMemory))
-first bytes (Ok m) h fault t = absurd (never (read_binary bytes) m fault h (binary_found bytes fault t))
-first bytes (Err bad) h fault t =
+pub first : (keeps : Bool) (bytes : List ℕ) (r : Result Module ReadBad) → Answers keeps (read_binary bytes) r → (fault : Fault) → BinaryFault bytes fault → IsErrAnd r (λ bad. (fault_of bad ≡ Some fault) ⊎ (bad ≡ NoMemory))
+first keeps bytes (Ok m) h fault t = absurd (never (read_binary bytes) h.0 fault h.1 (binary_found bytes fault t))
+first keeps bytes (Err bad) h fault t =
     elim (one_told bytes (fault_of bad) fault h (binary_found bytes fault t)) [
       | inl same ↦ inl same
       | inr none ↦ inr (wanting bad (λ other told. some_is_not_none other (fault_of bad) told none))
@@ -114,6 +121,10 @@ few_customs s m is few =
     let P : Module → Type 0 = λ n. length n.customs < 2 ^ 32 in
     subst P (sym is) (omega (arith, length-map s.customs (settled (without_customs s))))
 
-pub shape : (bytes : List ℕ) (r : Result Module ReadBad) → ((i : ℕ) → get_or bytes i 0 < 256) → Answers (read_binary bytes) r → IfOk r (λ m. length m.customs < 2 ^ 32) → IfOk r HasShape
-shape bytes (Ok m) are h few = binary_shape m bytes (are_bytes bytes are) (binary_sound bytes m h) few
+pub shape : (bytes : List ℕ) (r : Result Module ReadBad) → ((i : ℕ) → get_or bytes i 0 < 256) → Answers true (read_binary bytes) r → IfOk r (λ m. length m.customs < 2 ^ 32) → IfOk r HasShape
+shape bytes (Ok m) are h few = binary_shape m bytes (are_bytes bytes are) (spelled bytes (Ok m) h) few
 shape bytes (Err bad) are h few = tt
+
+pub shape_of_stripped : (bytes : List ℕ) (r : Result Module ReadBad) → ((i : ℕ) → get_or bytes i 0 < 256) → Answers false (read_binary bytes) r → IfOk r HasShape
+shape_of_stripped bytes (Ok m) are h = subst HasShape (sym h.2) (stripped_shape h.0 bytes (are_bytes bytes are) (binary_sound bytes h.0 h.1))
+shape_of_stripped bytes (Err bad) are h = tt

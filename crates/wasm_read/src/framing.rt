@@ -1,7 +1,7 @@
 // One section: its id, its length and its contents (Binary Format, Modules: Sections).
 ghost use Rattle.std.specs.Prelude.{◌≡◌, ◌≤◌, length, IfOk};
 ghost use Rattle.owi_base.specs.Forms.{any_byte, checked};
-ghost use Rattle.wasm_binary.specs.Modules.{next_id, slot_of as slot_by_id, sized_contents, section};
+ghost use Rattle.wasm_binary.specs.Modules.{next_id, slot_of as slot_by_id, sized_contents};
 ghost use Rattle.wasm_read.specs.Views.{Tells};
 
 use crate::bad::ReadBad;
@@ -24,8 +24,8 @@ fn slot_of(id: u8) -> u8
     }
 }
 
-// The id of a section that may come next.
-fn read_id(view: &View, at: usize, sections: &Sections) -> Result<(u8, usize), ReadBad>
+/// The id of a section that may come next.
+pub(crate) fn read_id(view: &View, at: usize, sections: &Sections) -> Result<(u8, usize), ReadBad>
     requires { at ≤ length view.now.bytes }
     ensures tells { Tells ((checked any_byte (next_id sections.now)).read view.now at) result }
     ensures within { IfOk result (λ x. x.1 ≤ length view.now.bytes) }
@@ -41,8 +41,8 @@ fn read_id(view: &View, at: usize, sections: &Sections) -> Result<(u8, usize), R
     }
 }
 
-// The length of a section of this id, and contents of this length.
-fn read_sized_contents(
+/// The length of a section of this id, and contents of this length, put to what the sections before it hold.
+pub(crate) fn read_sized_contents(
     alloc: Global,
     view: &View,
     at: usize,
@@ -62,19 +62,4 @@ fn read_sized_contents(
     } else {
         Err(inner.left_over(next))
     }
-}
-
-/// One section more, put to what the sections before it hold.
-pub(crate) fn read_section(
-    alloc: Global,
-    view: &View,
-    at: usize,
-    sections: Sections,
-) -> Result<(Sections, usize), ReadBad>
-    requires { at ≤ length view.now.bytes }
-    ensures tells { Tells ((section sections).read view.now at) result }
-    ensures within { IfOk result (λ x. x.1 ≤ length view.now.bytes) }
-{
-    let (id, at) = read_id(view, at, &sections)?;
-    read_sized_contents(alloc, view, at, sections, id)
 }

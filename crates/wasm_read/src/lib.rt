@@ -1,7 +1,8 @@
 // Reading the binary form of WebAssembly.
 //
 // `read_module` reads the modules of the profile: it answers the module that the bytes as a whole spell, or their first
-// trouble with its place. The grammar and the troubles stand in `wasm_binary`.
+// trouble with its place. `read_stripped` answers the same module without its custom sections, which it reads and passes
+// over, or the same trouble. The grammar and the troubles stand in `wasm_binary`.
 #![tactic(auto)]
 
 mod assembly;
@@ -23,6 +24,7 @@ mod names;
 mod nests;
 mod numbers;
 mod opcodes;
+mod passing;
 mod reading;
 mod sections;
 mod segments;
@@ -33,4 +35,4 @@ mod views;
 mod waiting;
 
 pub use bad::ReadBad;
-pub use module::read_module;
+pub use module::{read_module, read_stripped};

@@ -60,16 +60,27 @@ pub(crate) fn read_byte_vec(
     read_bytes(alloc, view, at, count as usize)
 }
 
-/// A name: a vector of bytes in UTF-8.
+/// A name, as it stands in the input: a vector of bytes in UTF-8.
+pub(crate) fn read_str<'a>(view: &'a View, at: usize) -> Result<(&'a str, usize), ReadBad>
+    requires { at ≤ length view.now.bytes }
+    ensures text { IfOk result (λ x. name.read view.now at ≡ Ok (x.0.now, x.1)) }
+    ensures trouble { IfErr result (λ bad. IfSome (fault_of bad) (λ fault. name.read view.now at ≡ Err fault)) }
+    ensures within { IfOk result (λ x. x.1 ≤ length view.now.bytes) }
+{
+    let (count, start) = read_u32(view, at)?;
+    let (bytes, next) = read_slice(view, start, count as usize)?;
+    match str::from_utf8(bytes) {
+        Ok(text) => Ok((text, next)),
+        Err(_) => Err(ReadBad::Utf8 { at: start as u64 }),
+    }
+}
+
+/// A name.
 pub(crate) fn read_name(alloc: Global, view: &View, at: usize) -> Result<(Text, usize), ReadBad>
     requires { at ≤ length view.now.bytes }
     ensures tells { Tells (name.read view.now at) result }
     ensures within { IfOk result (λ x. x.1 ≤ length view.now.bytes) }
 {
-    let (count, start) = read_u32(view, at)?;
-    let (bytes, next) = read_slice(view, start, count as usize)?;
-    let Ok(text) = str::from_utf8(bytes) else {
-        return Err(ReadBad::Utf8 { at: start as u64 });
-    };
+    let (text, next) = read_str(view, at)?;
     Ok((Text::new(String::from_str(alloc, text)?), next))
 }

@@ -1,5 +1,8 @@
-use Rattle.wasm_read.proofs.SectionLaws.{name_goes_on}
+use Rattle.std.proofs.lemmas.Result.{err_from_is_err_and}
 use Rattle.wasm_read.proofs.customs.read_custom.Goals as goal
 
-pub overflow_sub-next : goal.overflow_sub-next
-overflow_sub-next c = name_goes_on c.args.view.now c.args.at c.in_ok-name.name c.in_ok-name.next c.in_ok-name.ensures.tells
+pub returns-in_err-name-clause-tells : goal.returns-in_err-name-clause-tells
+returns-in_err-name-clause-tells c =
+    let told = c.in_err-name.ensures.trouble c.args.slot in
+    let p = err_from_is_err_and c.from_residual.result c.from_residual.ensures.1 in
+    rw (p.1, p.2) told

@@ -1,9 +1,8 @@
-use Rattle.std.proofs.Common.{◌∙◌, ap, sym, Result, Ok, arith, length}
+use Rattle.std.proofs.Common.{ap, arith, length}
 use Rattle.std.proofs.lemmas.Result.{err_from_is_err_and}
-use Rattle.wasm_ast.specs.declared.modules.Module.{Module}
-use Rattle.wasm_binary.specs.Faults.{Fault}
-use Rattle.wasm_binary.specs.Modules.{Sections}
+use Rattle.wasm_binary.specs.Modules.{Sections, module_of}
 use Rattle.wasm_read.specs.Refusals.{fault_of}
+use Rattle.wasm_read.proofs.PassingLaws.{under, told_is}
 use Rattle.wasm_read.proofs.WholeLaws.{front_told, sections_told, whole_read, few_customs}
 use Rattle.wasm_read.proofs.reading.read_whole.Goals as goal
 
@@ -21,8 +20,11 @@ returns-in_err-sections-clause-answers c =
 
 pub returns-clause-answers : goal.returns-clause-answers
 returns-clause-answers c =
-    whole_read c.args.bytes.now c.in_ok-at.field-0-0 c.in_ok-at.at _ (rw c.whole-view.ensures at c.in_ok-at.ensures.tells) (rw c.whole-view.ensures at c.in_ok-sections.ensures.read)
-    ∙ ap (λ (m : Module). let r : Result Module Fault = Ok m in r) (sym c.in_ok-module_of.ensures)
+    let all = c.in_ok-sections.ensures.read.0 in (
+      module_of (under all c.in_ok-sections.sections),
+      whole_read c.args.bytes.now c.in_ok-at.field-0-0 c.in_ok-at.at _ (rw c.whole-view.ensures at c.in_ok-at.ensures.tells) (rw c.whole-view.ensures at c.in_ok-sections.ensures.read.2),
+      told_is c.args.keeps all c.in_ok-sections.sections c.in_ok-module_of.field-0 c.in_ok-sections.ensures.read.1 c.in_ok-module_of.ensures,
+    )
 
 pub returns-clause-few : goal.returns-clause-few
 returns-clause-few c =
