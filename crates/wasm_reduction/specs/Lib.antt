@@ -17,3 +17,4 @@ pub mod Maps
 pub mod Widths
 pub mod Laws
 pub mod Examples
+pub mod Outermost
