@@ -1,6 +1,6 @@
 -- Loads and stores on the fast path: that they go on, once their questions are answered by their numbers.
 use Rattle.std.proofs.Common.{◌≡◌, ℕ, ◌+◌, ◌%◌, ◌^◌, ◌<◌, ◌≤◌, List, [], ◌∷◌, map, drop, length, refl, sym, ap, ◌∙◌, subst, arith}
-use Rattle.std.specs.Prelude.{true, false, nat_lt, nat_le, if◌then◌else◌, Option, Some, None}
+use Rattle.std.specs.Prelude.{true, false, nat_lt, nat_le, if◌then◌else◌, Option, Some, None, Bool}
 use Rattle.std.proofs.lemmas.Bool.{le-ltb}
 use Rattle.std.proofs.lemmas.Bool.Decides.{nat_tests}
 use Rattle.std.proofs.lemmas.List.{length-map}
@@ -38,8 +38,8 @@ use Rattle.wasm_run.proofs.FastPathLemmas.{IsPlain, ready-from}
 use Rattle.wasm_run.proofs.FastTestLemmas.{past_at, acts_at, step-acts, next-noted, place-noted, answers-noted, goes-on, carried-on, asking-tested, fast-step-by}
 
 -- an i32 operand is below 2^32
-pub word-small : {A : Type 0} {m : Module} {steps : ℕ} {a : A} {s : State (CodeValue ℕ)} {b : List ℕ} → MayStep m steps a s b → {k w : ℕ} → Some w ≡ word_at false (own s) k → w < 2 ^ 32
-word-small {m = m} {s = s} {b = b} run {k = k} {w = w} e = word_at-wide HasNumber (λ n. n) false (own s) k w (wide-state HasNumber (λ n. n) m (map (λ n. n) b) s run.fit.widths) e
+pub word-small : {A : Type 0} {m : Module} {steps : ℕ} {a : A} {s : State (CodeValue ℕ)} {b : List ℕ} → MayStep m steps a s b → (k : ℕ) {w : ℕ} → Some w ≡ word_at false (own s) k → w < 2 ^ 32
+word-small {m = m} {s = s} {b = b} run k {w = w} e = word_at-wide HasNumber (λ n. n) false (own s) k w (wide-state HasNumber (λ n. n) m (map (λ n. n) b) s run.fit.widths) e
 
 -- ---- the test of a range
 
@@ -78,7 +78,7 @@ load-addressing {m = m} {b = b} {s = s} {offset = offset} {w = w} {access = acce
       ∙ ap (λ size. addressing numbers Memory w (offset + access.bytes) size ns (λ at. Goes (holding (past_at m b s) (valued access.wide (accessed numbers access (part (at + offset) access.bytes (map (λ n. n) b))) ∷ drop 1 (own (image (λ n. n) s)))))) (length-map b (λ n. n));
 }
 
-module _ {m : Module} {b : List ℕ} {s : State (CodeValue ℕ)} {op align offset w : ℕ} {access : Access} (known : Some access ≡ store_of op) where
+module _ (m : Module) (b : List ℕ) (s : State (CodeValue ℕ)) (op align offset w : ℕ) (access : Access) (known : Some access ≡ store_of op) where
   -- what comes of the word to store, with the operands below it
   abbrev storing : List ℕ → Access → ℕ → List (Value ℕ) → Next ℕ
   storing ns access v rest = with_word false rest (λ address rest. addressing numbers Memory address (offset + access.bytes) (length (map (λ n. n) b)) ns (λ at. Goes (with_memory (holding (past_at m b s) rest) (written (at + offset) (lowest_bytes numbers access.bytes v) (map (λ n. n) b)))))
@@ -101,12 +101,13 @@ module _ {m : Module} {b : List ℕ} {s : State (CodeValue ℕ)} {op align offse
         ∙ ap (λ size. addressing numbers Memory w (offset + access.bytes) size ns (λ at. Goes (with_memory (holding (past_at m b s) (drop 2 (own (image (λ n. n) s)))) (written (at + offset) (lowest_bytes numbers access.bytes v) (map (λ n. n) b))))) (length-map b (λ n. n));
   }
 
-  pub store-addressing : {A : Type 0} {steps : ℕ} {a : A} → IsAtInstruction m steps a s b (Store op align offset) → Some w ≡ word_at false (own s) 1 → IsAddressing m b s (Store op align offset) w (offset + access.bytes)
-  store-addressing {steps = steps} at found = by (word_at access.wide (own s) 0) refl
-    where
-      by : (o : Option ℕ) → o ≡ word_at access.wide (own s) 0 → IsAddressing m b s (Store op align offset) w (offset + access.bytes)
-      by None e = absurd (at.run.sound Stuck (settled_here m steps (config_at m b s) (Ends Stuck) (step-acts m (Store op align offset) s b at.next ∙ store-stuck e)) refl)
-      by (Some v) e = store-some v e found
+pub store-addressing : {A : Type 0} {m : Module} {steps : ℕ} {a : A} {s : State (CodeValue ℕ)} {b : List ℕ} {op align offset w : ℕ} {access : Access} → Some access ≡ store_of op → IsAtInstruction m steps a s b (Store op align offset) → Some w ≡ word_at false (own s) 1 →
+    IsAddressing m b s (Store op align offset) w (offset + access.bytes)
+store-addressing {m = m} {steps = steps} {s = s} {b = b} {op = op} {align = align} {offset = offset} {w = w} {access = access} known at found = by (word_at access.wide (own s) 0) refl
+  where
+    by : (o : Option ℕ) → o ≡ word_at access.wide (own s) 0 → IsAddressing m b s (Store op align offset) w (offset + access.bytes)
+    by None e = absurd (at.run.sound Stuck (settled_here m steps (config_at m b s) (Ends Stuck) (step-acts m (Store op align offset) s b at.next ∙ store-stuck m b s op align offset w access known e)) refl)
+    by (Some v) e = store-some m b s op align offset w access known v e found
 
 -- ---- both questions
 
@@ -156,4 +157,4 @@ module _ {A : Type 0} {m : Module} {steps : ℕ} {a : A} {s : State (CodeValue �
         (subst IsPlain (sym (ap (λ ns. acts_at m b v ns i) twice-answers ∙ twice-asks.is (0 ∷ w ∷ []))) (plain-within (w + extent) (length b) Memory (twice-asks.go w) inside (twice-asks.plain w)))
 
     pub access-carried : {r : Bool} → r ≡ true → IsFastStep r m steps s b a' t d
-    access-carried is = fast-step-by is (carried-on m steps s b a v b twice-asking i twice-next a' t d x acts access-goes)
+    access-carried is = fast-step-by s b is (carried-on m steps s b a v b twice-asking i twice-next a' t d x acts access-goes)

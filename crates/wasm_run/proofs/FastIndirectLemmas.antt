@@ -1,6 +1,6 @@
 -- `call_indirect` on the fast path: that it goes on, once its questions are answered by the number of its index.
 use Rattle.std.proofs.Common.{◌≡◌, ℕ, zero, suc, ◌+◌, ◌^◌, ◌<◌, List, [], ◌∷◌, map, drop, length, refl, sym, ap, ◌∙◌, subst, arith}
-use Rattle.std.specs.Prelude.{true, false, nat_le, slice_get, Option, Some, None, option_map, option_and_then, unwrap_or}
+use Rattle.std.specs.Prelude.{true, false, nat_le, slice_get, Option, Some, None, option_map, option_and_then, unwrap_or, Bool}
 use Rattle.std.proofs.lemmas.Bool.Decides.{nat_tests}
 use Rattle.wasm_ast.specs.declared.instructions.Instr.TheVariants.{CallIndirect}
 use Rattle.wasm_ast.specs.declared.types.FuncType.{FuncType}
@@ -159,4 +159,4 @@ module _ {A : Type 0} {m : Module} {steps : ℕ} {a : A} {s : State (CodeValue �
         (entry-plain m b a ty table w linked v (found-noted w w u v v_is once-found) (entry-noted m ty table w w u v v_is once-entry) (sym twice-answers))
 
     pub entry-carried : {r : Bool} → r ≡ true → IsFastStep r m steps s b a' t b
-    entry-carried is = fast-step-by is (carried-on m steps s b a v b entry2 (CallIndirect ty table) twice-next a' t b x entry-on entry-goes)
+    entry-carried is = fast-step-by s b is (carried-on m steps s b a v b entry2 (CallIndirect ty table) twice-next a' t b x entry-on entry-goes)

@@ -289,9 +289,9 @@ module _ {A : Type 0} {m m' : Module} (same : m' ≡ m) {steps : ℕ} {a : A} {s
       pub at_instruction_of : IsAtInstruction m steps a s cells j
       at_instruction_of = subst (λ m. IsAtInstruction m steps a s cells j) same at_instruction
 
-  -- what is said of the module is said of the image
-  pub fast_of : {b : Bool} {a' : A} {t : State (CodeValue ℕ)} {d : List ℕ} → IsFastStep b m' steps s cells a' t d → IsFastStep b m steps s cells a' t d
-  fast_of {b = b} {a' = a'} {t = t} {d = d} so = subst (λ m. IsFastStep b m steps s cells a' t d) same so
+-- what is said of the module is said of the image
+pub fast_of : {A : Type 0} {m m' : Module} → m' ≡ m → (steps : ℕ) (s : State (CodeValue ℕ)) (cells : List ℕ) (b : Bool) (a' : A) (t : State (CodeValue ℕ)) (d : List ℕ) → IsFastStep b m' steps s cells a' t d → IsFastStep b m steps s cells a' t d
+fast_of same steps s cells b a' t d so = subst (λ m. IsFastStep b m steps s cells a' t d) same so
 
 -- ---- where nothing has been carried out, the state is as it was
 

@@ -210,11 +210,11 @@ module _ {A : Type 0} {m : Module} {steps : ℕ} {a : A} {s : State (CodeValue �
 abbrev pub IsSelect : Module → Instr → Type 0
 IsSelect m i = (c : Config ℕ) (vs : List (Value ℕ)) (ns : List ℕ) → act numbers m c vs ns i ≡ select numbers c vs ns
 
-pub select-may : {m : Module} {i : Instr} → IsSelect m i → Whatever MayAsk m i []
-select-may is = λ c vs. subst MayAsk (sym (is c vs [])) (asks-select c vs)
+pub select-may : (m : Module) (i : Instr) → IsSelect m i → Whatever MayAsk m i []
+select-may m i is = λ c vs. subst MayAsk (sym (is c vs [])) (asks-select c vs)
 
-pub select-plain : {m : Module} {i : Instr} → IsSelect m i → (n : ℕ) → Whatever IsPlain m i (n ∷ [])
-select-plain is n = λ c vs. subst IsPlain (sym (is c vs (n ∷ []))) (plain-select c vs n)
+pub select-plain : (m : Module) (i : Instr) → IsSelect m i → (n : ℕ) → Whatever IsPlain m i (n ∷ [])
+select-plain m i is n = λ c vs. subst IsPlain (sym (is c vs (n ∷ []))) (plain-select c vs n)
 
 pub select-acts : {A : Type 0} {m : Module} {i : Instr} → IsSelect m i → {a a' : A} {s t : State (CodeValue ℕ)} {x : CodeNext ℕ} → Acts (λ _ w. w < 2 ^ 64) (λ _ n. n) numbers m Select a s a' t x → Acts (λ _ w. w < 2 ^ 64) (λ _ n. n) numbers m i a s a' t x
 select-acts is h = record { gives = λ b. is _ _ _ ∙ h.gives b; after = h.after }

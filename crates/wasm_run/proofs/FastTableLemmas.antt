@@ -1,6 +1,6 @@
 -- `br_table` on the fast path: its questions, answered by their numbers, lead to the label of its index.
 use Rattle.std.proofs.Common.{◌≡◌, ℕ, zero, suc, ◌+◌, ◌-◌, ◌^◌, ◌<◌, ◌≤◌, List, [], ◌∷◌, ◌++◌, map, take, drop, length, refl, sym, ap, ◌∙◌, subst, arith, append_assoc, append-nil}
-use Rattle.std.specs.Prelude.{true, false, ◌==◌, ◌||◌, not, nat_lt, replicate, slice_index_or, Some}
+use Rattle.std.specs.Prelude.{true, false, ◌==◌, ◌||◌, not, nat_lt, replicate, slice_index_or, Some, Bool}
 use Rattle.std.proofs.lemmas.Bool.Decides.{nat_tests}
 use Rattle.wasm_ast.specs.declared.instructions.Instr.TheVariants.{BrTable}
 use Rattle.wasm_ast.specs.declared.modules.Module.{Module}
@@ -127,4 +127,4 @@ module _ {A : Type 0} {m : Module} {steps : ℕ} {a : A} {s : State (CodeValue �
       table-goes = goes-on m steps s b a u b table-asking (BrTable labels last) table-next a' t b x table-on at.run.sound table-plain
 
       pub table-carried : {r : Bool} → r ≡ true → IsFastStep r m steps s b a' t b
-      table-carried is = fast-step-by is (carried-on m steps s b a u b table-asking (BrTable labels last) table-next a' t b x table-on table-goes)
+      table-carried is = fast-step-by s b is (carried-on m steps s b a u b table-asking (BrTable labels last) table-next a' t b x table-on table-goes)

@@ -100,8 +100,8 @@ module _ {A : Type 0} (m : Module) (steps : ℕ) (first : State (CodeValue ℕ))
     acts-cells i t x acts = acts-on (λ _ w. w < 2 ^ 64) (λ _ n. n) numbers m i i a a (kept-same (λ _ w. w < 2 ^ 64) (λ _ n. n) a) u t b x asking.order.cells refl acts
 
 -- the function's answer says so
-pub fast-step-by : {A : Type 0} {m : Module} {steps : ℕ} {s : State (CodeValue ℕ)} {b : List ℕ} {a : A} {t : State (CodeValue ℕ)} {d : List ℕ} {r : Bool} → r ≡ true → CarriedOut m steps (config_at m b s) a t d → IsFastStep r m steps s b a t d
-fast-step-by {m = m} {steps = steps} {s = s} {b = b} {a = a} {t = t} {d = d} is carried = subst (λ r. IsFastStep r m steps s b a t d) (sym is) carried
+pub fast-step-by : {A : Type 0} {m : Module} {steps : ℕ} (s : State (CodeValue ℕ)) (b : List ℕ) {a : A} {t : State (CodeValue ℕ)} {d : List ℕ} {r : Bool} → r ≡ true → CarriedOut m steps (config_at m b s) a t d → IsFastStep r m steps s b a t d
+fast-step-by {m = m} {steps = steps} s b {a = a} {t = t} {d = d} is carried = subst (λ r. IsFastStep r m steps s b a t d) (sym is) carried
 
 -- ---- one test
 
@@ -151,7 +151,7 @@ module _ {A : Type 0} {m : Module} {steps : ℕ} {a : A} {s : State (CodeValue �
     branch-goes-by plain = tested-goes at w n_is noted_is branch-asks acts plain
 
     pub branch-carried : {r : Bool} → r ≡ true → x ≡ CodeGoes → IsFastStep r m steps s b a t b
-    branch-carried is goes = fast-step-by is (tested-carried at w n_is noted_is branch-asks acts goes)
+    branch-carried is goes = fast-step-by s b is (tested-carried at w n_is noted_is branch-asks acts goes)
 
 module _ {A : Type 0} {m : Module} {steps : ℕ} {a : A} {s : State (CodeValue ℕ)} {b : List ℕ} {ty : BlockType} {inner other : ℕ} (at : IsAtInstruction m steps a s b (If ty inner other)) {u : State (CodeValue ℕ)} {n : ℕ} (w : ℕ) (n_is : n ≡ answer_of Test w) (noted_is : u ≡ noted n s)
     (found : Some w ≡ word_at false (own s) 0) where
@@ -169,4 +169,4 @@ module _ {A : Type 0} {m : Module} {steps : ℕ} {a : A} {s : State (CodeValue �
     block-goes = tested-goes at w n_is noted_is block-asks acts (plain-if m (past_at m b u) (own (image (λ n. n) u)) n ty inner other)
 
     pub block-carried : {r : Bool} → r ≡ true → x ≡ CodeGoes → IsFastStep r m steps s b a t b
-    block-carried is goes = fast-step-by is (tested-carried at w n_is noted_is block-asks acts goes)
+    block-carried is goes = fast-step-by s b is (tested-carried at w n_is noted_is block-asks acts goes)

@@ -1,5 +1,5 @@
 // The memory of a run on plain numbers.
-ghost use Rattle.std.specs.Prelude.{◌≡◌, ◌⊎◌, ℕ, ◌+◌, ◌*◌, ◌<◌, ◌≤◌, ◌^◌, ◌++◌, All, IfOk, OnOk, OnErr, IsSome, Some, Ok, length, replicate};
+ghost use Rattle.std.specs.Prelude.{◌≡◌, ◌⊎◌, ℕ, ◌+◌, ◌*◌, ◌<◌, ◌≤◌, ◌^◌, ◌++◌, All, IfOk, OnOk, OnErr, IsSome, Some, Ok, length, map, replicate};
 ghost use Rattle.wasm_reduction.specs.Combinators.{written, part};
 ghost use Rattle.wasm_reduction.specs.Memories.{page_bytes};
 ghost use Rattle.wasm_rules.specs.Words.{numbers, HasNumber};
@@ -107,7 +107,11 @@ impl Memory<Numbers> for Bytes {
         Ok(())
     }
 
-    fn write_bytes(&mut self, at: u64, bytes: &[u8]) -> Result<(), AllocError> {
+    fn write_bytes(&mut self, at: u64, bytes: &[u8]) -> Result<(), AllocError>
+        requires within { at + length bytes.now ≤ length self.old }
+        ensures written { OnOk result (self.new ≡ written at (map (λ n. n) bytes.now) self.old) }
+        ensures refused { OnErr result (self.new ≡ self.old) }
+    {
         let pages = self.pages.as_mut_slice();
         hold(pages, at as usize, bytes.len())?;
         write(pages, at as usize, bytes);

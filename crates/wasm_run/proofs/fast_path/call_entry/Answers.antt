@@ -3,7 +3,7 @@ use Rattle.wasm_run.proofs.FastIndirectLemmas.{entry-ready, entry-small, entry-g
 use Rattle.wasm_run.proofs.fast_path.call_entry.Goals as goal
 
 pub is_own_entry-requires : goal.is_own_entry-requires
-is_own_entry-requires c = word-small c.requires.at.run c.in-Some.ensures
+is_own_entry-requires c = word-small c.requires.at.run 0 c.in-Some.ensures
 
 pub call_indirect-requires : goal.call_indirect-requires
 call_indirect-requires c = record {

@@ -21,19 +21,19 @@ pub straight-requires : goal.straight-requires
 straight-requires c = at_instruction c.module-m.ensures.module c.requires (sym c.in-Some.is ∙ c.function.ensures) (sym c.given.ensures ∙ none_given c.given.result.now c.is_empty.result c.is_empty.ensures c.if-not-is_empty.false) c.in-Some-instruction.ensures.room c.in-Some-instruction.ensures.there refl
 
 pub returns-in_ok-leave-in-None-instruction : goal.returns-in_ok-leave-in-None-instruction
-returns-in_ok-leave-in-None-instruction c = fast_of c.module-m.ensures.module c.in_ok-leave-in-None-instruction.ensures
+returns-in_ok-leave-in-None-instruction c = fast_of c.module-m.ensures.module c.args.steps c.args.s.now c.args.memory.now c.in_ok-leave-in-None-instruction.field-0 c.leave.new.numbers c.leave.new.s c.args.memory.now c.in_ok-leave-in-None-instruction.ensures
 
 pub returns-in_ok-test_branch-in-BrIf : goal.returns-in_ok-test_branch-in-BrIf
-returns-in_ok-test_branch-in-BrIf c = fast_of c.module-m.ensures.module c.in_ok-test_branch-in-BrIf.ensures
+returns-in_ok-test_branch-in-BrIf c = fast_of c.module-m.ensures.module c.args.steps c.args.s.now c.args.memory.now c.in_ok-test_branch-in-BrIf.field-0 c.test_branch.new.numbers c.test_branch.new.s c.args.memory.now c.in_ok-test_branch-in-BrIf.ensures
 
 pub returns-in_ok-test_block-in-If : goal.returns-in_ok-test_block-in-If
-returns-in_ok-test_block-in-If c = fast_of c.module-m.ensures.module c.in_ok-test_block-in-If.ensures
+returns-in_ok-test_block-in-If c = fast_of c.module-m.ensures.module c.args.steps c.args.s.now c.args.memory.now c.in_ok-test_block-in-If.field-0 c.test_block.new.numbers c.test_block.new.s c.args.memory.now c.in_ok-test_block-in-If.ensures
 
 pub returns-in_ok-load_within-in-Load : goal.returns-in_ok-load_within-in-Load
-returns-in_ok-load_within-in-Load c = fast_of c.module-m.ensures.module c.in_ok-load_within-in-Load.ensures
+returns-in_ok-load_within-in-Load c = fast_of c.module-m.ensures.module c.args.steps c.args.s.now c.args.memory.now c.in_ok-load_within-in-Load.field-0 c.load_within.new.numbers c.load_within.new.s c.args.memory.now c.in_ok-load_within-in-Load.ensures
 
 pub returns-in_ok-store_within-in-Store : goal.returns-in_ok-store_within-in-Store
-returns-in_ok-store_within-in-Store c = fast_of c.module-m.ensures.module c.in_ok-store_within-in-Store.ensures
+returns-in_ok-store_within-in-Store c = fast_of c.module-m.ensures.module c.args.steps c.args.s.now c.args.memory.now c.in_ok-store_within-in-Store.field-0 c.store_within.new.numbers c.store_within.new.s c.store_within.new.memory c.in_ok-store_within-in-Store.ensures
 
 pub returns-in_ok-straight-in_default : goal.returns-in_ok-straight-in_default
-returns-in_ok-straight-in_default c = fast_of c.module-m.ensures.module c.in_ok-straight-in_default.ensures
+returns-in_ok-straight-in_default c = fast_of c.module-m.ensures.module c.args.steps c.args.s.now c.args.memory.now c.in_ok-straight-in_default.field-0 c.straight.new.numbers c.straight.new.s c.args.memory.now c.in_ok-straight-in_default.ensures

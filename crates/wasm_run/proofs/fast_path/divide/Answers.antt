@@ -43,7 +43,7 @@ gone_on-requires c = third-goes c.requires (λ d vs. ask_numeric d vs c.args.op)
     (c.in_ok-num-in-Asks-2.ensures.acts c.args.m.now) (λ d vs. plain-numeric d vs c.args.op)
 
 pub returns-in_ok-num-in-Asks-2 : goal.returns-in_ok-num-in-Asks-2
-returns-in_ok-num-in-Asks-2 c = fast-step-by c.gone_on.ensures
+returns-in_ok-num-in-Asks-2 c = fast-step-by c.args.s.now c.args.memory.now c.gone_on.ensures
     (third-carried c.requires (λ d vs. ask_numeric d vs c.args.op) (c.in_ok-num.ensures.acts c.args.m.now) c.in-Asks.is (zero-answer c.in-Asks.zero (omega (arith, c.if-zero-ne0.false))) c.in_ok-note-in-Asks.ensures
     (c.in_ok-num-in-Asks.ensures.acts c.args.m.now) (λ d vs. asks-numeric d vs c.args.op)
     c.in-Asks-2.is (zero-answer c.in-Asks-2.large (omega (arith, c.if-large-ne0.false))) c.in_ok-note-in-Asks-2.ensures

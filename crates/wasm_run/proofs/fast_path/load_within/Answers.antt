@@ -3,7 +3,7 @@ use Rattle.wasm_run.proofs.FastAccessLemmas.{word-small, load-addressing, access
 use Rattle.wasm_run.proofs.fast_path.load_within.Goals as goal
 
 pub is_within-requires : goal.is_within-requires
-is_within-requires c = word-small c.requires.1.run c.in-Some-word.ensures
+is_within-requires c = word-small c.requires.1.run 0 c.in-Some-word.ensures
 
 pub load-requires-2-clause-ready : goal.load-requires-2-clause-ready
 load-requires-2-clause-ready c = access-ready c.requires.1 c.in_ok-note.ensures c.in_ok-note-2.ensures (load-addressing c.in-Some.ensures c.in-Some-word.ensures) (sym c.is_within.ensures ∙ c.if-not-is_within.false)

@@ -47,31 +47,31 @@ pub divide-requires : goal.divide-requires
 divide-requires c = at_instruction c.module-m.ensures.module c.requires.run (sym c.in-Some.is ∙ c.function.ensures) (sym c.given.ensures ∙ none_given c.given.result.now c.is_empty.result c.is_empty.ensures c.if-not-is_empty.false) c.in-Some-instruction.ensures.room c.in-Some-instruction.ensures.there c.in-Num.is
 
 pub returns-in_ok-leave_frame-in-None-instruction : goal.returns-in_ok-leave_frame-in-None-instruction
-returns-in_ok-leave_frame-in-None-instruction c = fast_of c.module-m.ensures.module c.in_ok-leave_frame-in-None-instruction.ensures
+returns-in_ok-leave_frame-in-None-instruction c = fast_of c.module-m.ensures.module c.args.steps c.args.s.now c.args.memory.now c.in_ok-leave_frame-in-None-instruction.field-0 c.leave_frame.new.numbers c.leave_frame.new.s c.args.memory.now c.in_ok-leave_frame-in-None-instruction.ensures
 
 pub returns-in_ok-branch_out-in-Br : goal.returns-in_ok-branch_out-in-Br
-returns-in_ok-branch_out-in-Br c = fast_of c.module-m.ensures.module c.in_ok-branch_out-in-Br.ensures
+returns-in_ok-branch_out-in-Br c = fast_of c.module-m.ensures.module c.args.steps c.args.s.now c.args.memory.now c.in_ok-branch_out-in-Br.field-0 c.branch_out.new.numbers c.branch_out.new.s c.args.memory.now c.in_ok-branch_out-in-Br.ensures
 
 pub returns-in_ok-test_branch_out-in-BrIf : goal.returns-in_ok-test_branch_out-in-BrIf
-returns-in_ok-test_branch_out-in-BrIf c = fast_of c.module-m.ensures.module c.in_ok-test_branch_out-in-BrIf.ensures
+returns-in_ok-test_branch_out-in-BrIf c = fast_of c.module-m.ensures.module c.args.steps c.args.s.now c.args.memory.now c.in_ok-test_branch_out-in-BrIf.field-0 c.test_branch_out.new.numbers c.test_branch_out.new.s c.args.memory.now c.in_ok-test_branch_out-in-BrIf.ensures
 
 pub returns-in_ok-table_branch-in-BrTable : goal.returns-in_ok-table_branch-in-BrTable
-returns-in_ok-table_branch-in-BrTable c = fast_of c.module-m.ensures.module c.in_ok-table_branch-in-BrTable.ensures
+returns-in_ok-table_branch-in-BrTable c = fast_of c.module-m.ensures.module c.args.steps c.args.s.now c.args.memory.now c.in_ok-table_branch-in-BrTable.field-0 c.table_branch.new.numbers c.table_branch.new.s c.args.memory.now c.in_ok-table_branch-in-BrTable.ensures
 
 pub returns-in_ok-give_results-in-Return : goal.returns-in_ok-give_results-in-Return
-returns-in_ok-give_results-in-Return c = fast_of c.module-m.ensures.module c.in_ok-give_results-in-Return.ensures
+returns-in_ok-give_results-in-Return c = fast_of c.module-m.ensures.module c.args.steps c.args.s.now c.args.memory.now c.in_ok-give_results-in-Return.field-0 c.give_results.new.numbers c.give_results.new.s c.args.memory.now c.in_ok-give_results-in-Return.ensures
 
 pub returns-in_ok-call_within-in-Call : goal.returns-in_ok-call_within-in-Call
 returns-in_ok-call_within-in-Call c = c.in_ok-call_within-in-Call.ensures
 
 pub returns-in_ok-choose-in-Select : goal.returns-in_ok-choose-in-Select
-returns-in_ok-choose-in-Select c = fast_of c.module-m.ensures.module c.in_ok-choose-in-Select.ensures
+returns-in_ok-choose-in-Select c = fast_of c.module-m.ensures.module c.args.steps c.args.s.now c.args.memory.now c.in_ok-choose-in-Select.field-0 c.choose.new.numbers c.choose.new.s c.args.memory.now c.in_ok-choose-in-Select.ensures
 
 pub returns-in_ok-choose-in-SelectTyped : goal.returns-in_ok-choose-in-SelectTyped
-returns-in_ok-choose-in-SelectTyped c = fast_of c.module-m.ensures.module c.in_ok-choose-in-SelectTyped.ensures
+returns-in_ok-choose-in-SelectTyped c = fast_of c.module-m.ensures.module c.args.steps c.args.s.now c.args.memory.now c.in_ok-choose-in-SelectTyped.field-0 c.choose-in-SelectTyped.new.numbers c.choose-in-SelectTyped.new.s c.args.memory.now c.in_ok-choose-in-SelectTyped.ensures
 
 pub returns-in_ok-divide-in-Num : goal.returns-in_ok-divide-in-Num
-returns-in_ok-divide-in-Num c = fast_of c.module-m.ensures.module c.in_ok-divide-in-Num.ensures
+returns-in_ok-divide-in-Num c = fast_of c.module-m.ensures.module c.args.steps c.args.s.now c.args.memory.now c.in_ok-divide-in-Num.field-0 c.divide.new.numbers c.divide.new.s c.args.memory.now c.in_ok-divide-in-Num.ensures
 
 pub returns-in_ok-call_entry-in-CallIndirect : goal.returns-in_ok-call_entry-in-CallIndirect
 returns-in_ok-call_entry-in-CallIndirect c = c.in_ok-call_entry-in-CallIndirect.ensures

@@ -3,7 +3,7 @@ use Rattle.wasm_run.proofs.FastAccessLemmas.{word-small, store-addressing, acces
 use Rattle.wasm_run.proofs.fast_path.store_within.Goals as goal
 
 pub is_within-requires : goal.is_within-requires
-is_within-requires c = word-small c.requires.1.run c.in-Some-word.ensures
+is_within-requires c = word-small c.requires.1.run 1 c.in-Some-word.ensures
 
 pub store-requires-2-clause-ready : goal.store-requires-2-clause-ready
 store-requires-2-clause-ready c = access-ready c.requires.1 c.in_ok-note.ensures c.in_ok-note-2.ensures (store-addressing c.in-Some.ensures c.requires.1 c.in-Some-word.ensures) (sym c.is_within.ensures ∙ c.if-not-is_within.false)

@@ -6,7 +6,7 @@ use Rattle.wasm_run.proofs.FastTableLemmas.{table-few, table-ready, table-goes, 
 use Rattle.wasm_run.proofs.fast_path.table_branch.Goals as goal
 
 pub label_at-l-requires : goal.label_at-l-requires
-label_at-l-requires c = word-small c.requires.run c.in-Some.ensures
+label_at-l-requires c = word-small c.requires.run 0 c.in-Some.ensures
 
 pub br_table-requires-clause-ready : goal.br_table-requires-clause-ready
 br_table-requires-clause-ready c = table-ready c.requires c.in-Some.ensures
