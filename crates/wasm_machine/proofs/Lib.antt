@@ -1,7 +1,6 @@
 pub mod CellLemmas
 pub mod Lists
 pub mod Steps
-pub mod StartLemmas
 pub mod Images
 pub mod Operands
 pub mod ActLaws
@@ -21,4 +20,3 @@ pub mod MemoryLaws
 pub mod TableLaws
 pub mod DropLaws
 pub mod StepLaws
-pub mod SegmentLemmas

@@ -10,5 +10,4 @@ pub mod Says
 pub mod Choices
 pub mod Stores
 pub mod Comings
-pub mod Starts
 pub mod Steps

@@ -19,7 +19,6 @@ pub mod parametric;
 pub mod progress;
 pub mod ranges;
 pub mod references;
-pub mod start;
 pub mod step;
 pub mod stores;
 pub mod tables;

@@ -1,8 +1,8 @@
 // The bounded run.
 ghost use Rattle.std.specs.Prelude.{◌≡◌, ◌≢◌, IfOk, Some};
 ghost use Rattle.wasm_reduction.specs.Runs.{outcome_of_end};
-ghost use Rattle.wasm_machine.specs.Starts.{stop_of};
-ghost use Rattle.wasm_machine.specs.declared.start.Stop.TheVariants.{Stuck};
+ghost use Rattle.wasm_start.specs.Starts.{stop_of};
+ghost use Rattle.wasm_start.specs.declared.allocation.Stop.TheVariants.{Stuck};
 ghost use Rattle.wasm_run.specs.Bounded.{CanRun, RunGives};
 
 use crate::bytes::Bytes;
@@ -10,10 +10,11 @@ use crate::turns::{Request, go};
 use std::alloc::{AllocError, Global};
 use wasm_ast::{List, Outcome, Ran, Value};
 use wasm_image::Image;
-use wasm_machine::start::{Begun, Stop, memory_pages, start};
 use wasm_reduction::ranges::{arguments_fit, module_has_numbers};
 use wasm_rules::Numbers;
 use wasm_soundness::laws::runs_are_never_stuck;
+use wasm_start::Stop;
+use wasm_start::start::{Begun, memory_pages, start};
 
 /// The bounded run of the function `entry`, by its index, imports counted: instantiation, the start function where there is
 /// one, and the call of `entry` with these arguments, in at most `steps` units, from 1 to 10,000,000, and 1,024 frames. The

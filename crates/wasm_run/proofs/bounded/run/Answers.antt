@@ -4,7 +4,7 @@ use Rattle.wasm_reduction.specs.Runs.{by_value}
 use Rattle.std.proofs.lemmas.List.Elements.{recursion_from_All}
 use Rattle.wasm_check.specs.Contexts.{imported_memories}
 use Rattle.wasm_image.specs.Sizes.{most_pages}
-use Rattle.wasm_machine.specs.Starts.{stop_of}
+use Rattle.wasm_start.specs.Starts.{stop_of}
 use Rattle.wasm_run.specs.Places.{config_at}
 use Rattle.wasm_run.proofs.ReachedLemmas.{own_are_small, begins_at, ends_at_once, never_begins_stuck}
 use Rattle.wasm_run.proofs.bounded.run.Goals as goal

@@ -1,9 +1,0 @@
-use Rattle.std.proofs.Common.{map}
-use Rattle.wasm_reduction.specs.Instantiation.{reference_in}
-use Rattle.wasm_machine.specs.Starts.{plain}
-use Rattle.wasm_machine.specs.Values.{reference}
-use Rattle.wasm_machine.proofs.StartLemmas.{Done}
-use Rattle.wasm_machine.proofs.start.references_of.Given as goal
-
-abbrev pub invariant-loop-item : goal.invariant-loop-item
-invariant-loop-item l = Done (reference_in (map plain l.globals)) l.items l.item-index (map reference l.references.items)
