@@ -11,8 +11,6 @@
 #![tactic(auto)]
 
 mod endings;
-#[cfg(test)]
-mod tests;
 mod words;
 
 pub use endings::Endings;
