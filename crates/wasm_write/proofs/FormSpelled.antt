@@ -24,7 +24,7 @@ use Rattle.wasm_binary.specs.Values.{Grammar, u32, s33, vec, name, text_of}
 use Rattle.wasm_binary.specs.Types.{ref_type, val_type, func_type, limits, table_type, global_type, block_type}
 use Rattle.wasm_write.specs.Values.{vec_bytes, sized}
 use Rattle.wasm_write.specs.Types.{type_byte, val_type_bytes, func_type_bytes, sizes_bytes, limits_bytes, table_type_bytes, global_type_bytes, block_type_bytes}
-use Rattle.wasm_write.specs.Ranges.{IsU32, LimitsInRange, BlockTypeInRange}
+use Rattle.wasm_ast.specs.Ranges.{IsU32, LimitsInRange, BlockTypeInRange}
 
 -- ---- lists
 

@@ -17,7 +17,7 @@ use Rattle.wasm_write.specs.Values.{vec_bytes}
 use Rattle.wasm_write.specs.Types.{val_type_bytes}
 use Rattle.wasm_write.specs.Instructions.{expr_bytes}
 use Rattle.wasm_write.specs.Parts.{group_bytes, code_bytes}
-use Rattle.wasm_write.specs.Ranges.{FuncInRange}
+use Rattle.wasm_ast.specs.Ranges.{FuncInRange}
 use Rattle.wasm_write.proofs.FormSpelled.{u32_spelled, val_type_spelled}
 use Rattle.wasm_write.proofs.SequencesSpelled.{IsCounted, expr_spelled}
 

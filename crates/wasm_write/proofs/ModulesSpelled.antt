@@ -15,7 +15,7 @@ use Rattle.wasm_binary.specs.Modules.{Sections, no_sections, section, sections, 
 use Rattle.wasm_binary.proofs.BinaryLaws.{one_module}
 use Rattle.wasm_write.specs.Modules as writing
 use Rattle.wasm_write.specs.Modules.{Section, section_of, custom_section, customs_after, section_bytes, shortest, is_long, first_long}
-use Rattle.wasm_write.specs.Ranges.{IsInRange}
+use Rattle.wasm_ast.specs.Ranges.{IsInRange}
 use Rattle.wasm_write.proofs.CustomLaws.{at_slot, gathered, all_gathered, HasPlace, place_within, last_is, last_within, all_settled}
 use Rattle.wasm_write.proofs.LocalsSpelled.{code_of}
 use Rattle.wasm_write.proofs.SectionsSpelled.{CustomIsFine, custom_spelled, indices_of, codes_of, up_to, Step, types_step, imports_step, funcs_step, tables_step, memories_step, globals_step, exports_step, start_step, elems_step, data_count_step, code_step, data_step}

@@ -30,7 +30,7 @@ use Rattle.wasm_write.specs.Values.{vec_bytes, sized}
 use Rattle.wasm_write.specs.Types.{type_byte, limits_bytes, table_type_bytes, global_type_bytes}
 use Rattle.wasm_write.specs.Instructions.{expr_bytes}
 use Rattle.wasm_write.specs.Parts.{import_kind_bytes, import_bytes, global_bytes, export_bytes, single_func, func_of, is_func_ref, has_indices, index_bytes, func_item_bytes, elem_front, elem_bytes, segment_front, segment_bytes}
-use Rattle.wasm_write.specs.Ranges.{IsU32, ExprInRange, KindInRange, ImportInRange, ExportInRange, ModeInRange, ElemInRange}
+use Rattle.wasm_ast.specs.Ranges.{IsU32, ExprInRange, KindInRange, ImportInRange, ExportInRange, ModeInRange, ElemInRange, SegmentInRange}
 use Rattle.wasm_write.proofs.FormSpelled.{each_of, both_true, u32_spelled, vec_spelled, sized_spelled, name_spelled, ref_type_spelled, limits_spelled, table_type_spelled, global_type_spelled}
 use Rattle.wasm_write.proofs.SequencesSpelled.{expr_spelled}
 
@@ -301,5 +301,5 @@ data_spelled (Active index offset) bytes ne shape range short =
           (segment_of_front 2 (Active index offset) (unsigned_bytes index ++ expr_bytes offset) bytes (flag_spelled 3 2 (omega arith) refl) (active_spelled index offset shape range.0 range.1) short)
     ]
 
-pub segment_spelled : (s : Segment) → SegmentHasShape s → ModeInRange s.mode → segment.Spells s (segment_bytes s)
-segment_spelled s shape range = data_spelled s.mode s.bytes shape.not_declared shape.mode range shape.short
+pub segment_spelled : (s : Segment) → SegmentHasShape s → SegmentInRange s → segment.Spells s (segment_bytes s)
+segment_spelled s shape range = data_spelled s.mode s.bytes shape.not_declared shape.mode range.mode shape.short

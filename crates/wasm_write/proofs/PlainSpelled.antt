@@ -20,7 +20,7 @@ use Rattle.wasm_binary.specs.Instructions.{Opcode, opcode, Around, is_opcode, is
 use Rattle.wasm_write.specs.Values.{vec_bytes}
 use Rattle.wasm_write.specs.Types.{val_type_bytes}
 use Rattle.wasm_write.specs.Instructions as writing
-use Rattle.wasm_write.specs.Ranges.{IsU32, InstrInRange}
+use Rattle.wasm_ast.specs.Ranges.{IsU32, InstrInRange}
 use Rattle.wasm_write.proofs.FormSpelled.{by_recursion, u32_spelled, vec_spelled, kinds_spelled, ref_type_spelled}
 
 -- ---- tests that choose a form

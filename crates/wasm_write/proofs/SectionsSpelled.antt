@@ -23,7 +23,7 @@ use Rattle.wasm_write.specs.Values.{vec_bytes, sized}
 use Rattle.wasm_write.specs.Types.{func_type_bytes, limits_bytes, table_type_bytes}
 use Rattle.wasm_write.specs.Parts.{import_bytes, global_bytes, export_bytes, elem_bytes, segment_bytes, code_bytes}
 use Rattle.wasm_write.specs.Modules as writing
-use Rattle.wasm_write.specs.Ranges.{IsU32, LimitsInRange, ExprInRange, ImportInRange, FuncInRange, ExportInRange, ModeInRange, ElemInRange, IsInRange}
+use Rattle.wasm_ast.specs.Ranges.{IsU32, LimitsInRange, ExprInRange, ImportInRange, FuncInRange, ExportInRange, ElemInRange, SegmentInRange, IsInRange}
 use Rattle.wasm_write.proofs.FormSpelled.{by_recursion, each_of, u32_spelled, many_spelled, vec_spelled, bytes_spelled, name_spelled, func_type_spelled, limits_spelled, table_type_spelled}
 use Rattle.wasm_write.proofs.SequencesSpelled.{IsCounted}
 use Rattle.wasm_write.proofs.LocalsSpelled.{code_of, entry_bytes, code_spelled}
@@ -341,7 +341,7 @@ data_step m shape range = record {
         rest,
         refl,
         (n, u32_spelled n shape.lists.segments, as_announced n (is_written m 10)),
-        many_spelled segment segment_bytes m.segments (each_of SegmentHasShape (λ x. ModeInRange x.mode) (λ x. segment.Spells x (segment_bytes x)) m.segments segment_spelled shape.segments range.segments),
+        many_spelled segment segment_bytes m.segments (each_of SegmentHasShape SegmentInRange (λ x. segment.Spells x (segment_bytes x)) m.segments segment_spelled shape.segments range.segments),
       ));
   not_written = λ is slot customs. ap (λ xs. let t : Sections = record (up_to m 11 slot customs) { segments = xs } in t) (sym (none_of m.segments is));
 }

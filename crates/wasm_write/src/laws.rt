@@ -4,12 +4,12 @@ ghost use Rattle.wasm_ast.specs.declared.modules.Module.{Module as OneModule};
 ghost use Rattle.wasm_ast.specs.Shape.{HasShape};
 ghost use Rattle.wasm_binary.specs.Modules.{IsBinary};
 ghost use Rattle.wasm_write.specs.Modules.{shortest, sections, first_long};
-ghost use Rattle.wasm_write.specs.Ranges.{IsInRange};
+ghost use Rattle.wasm_ast.specs.Ranges.{IsInRange};
 ghost use Rattle.wasm_binary.specs.Sum.{sum_module, sum_bytes};
 ghost use Rattle.wasm_write.specs.Examples.{empty_module, empty_bytes, zero_module, zero_bytes, produced_module, produced_bytes};
 
-use crate::ranges::is_in_range;
 use wasm_ast::Module;
+use wasm_ast::ranges::is_in_range;
 
 /// Law: the shortest spelling of a module is a spelling of it, where no section is too long. So reading it gives the module,
 /// and a module that was read from any spelling is written to the same bytes each time.

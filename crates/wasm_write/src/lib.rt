@@ -13,15 +13,14 @@ mod expressions;
 mod instructions;
 pub mod laws;
 mod parts;
-pub mod ranges;
 mod sections;
 mod types;
 mod values;
 
-use ranges::is_in_range;
 use sections::put_sections;
 use std::alloc::{AllocError, Global};
 use wasm_ast::Module;
+use wasm_ast::ranges::is_in_range;
 
 /// Why a module isn't written.
 #[derive(Clone, Copy, Debug, PartialEq, Eq)]

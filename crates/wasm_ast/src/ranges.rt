@@ -1,30 +1,39 @@
-// What the types of a module's parts say of their values: each number fits its type, and each name is UTF-8.
+// What the types of a module's parts, and of the values of a run, say of them: each number fits its type, and each name is
+// UTF-8.
 //
 // Contracts see a module as plain data, whose numbers have no bounds of their own. These functions read a module through, so
 // that the bounds are known of it as data too. They do nothing else.
-ghost use Rattle.std.specs.Prelude.{All, IfSome, IsUtf8};
-ghost use Rattle.wasm_write.specs.Ranges.{IsU32, BlockTypeInRange, KindInRange, ModeInRange, IsInRange};
+ghost use Rattle.std.specs.Prelude.{◌^◌, ◌<◌, All, IfSome, IsUtf8};
+ghost use Rattle.wasm_ast.specs.Ranges.{IsU32, BlockTypeInRange, KindInRange, ModeInRange, IsInRange, ValueInRange};
 
-use wasm_ast::{
-    BlockType, Custom, Elem, Export, Expr, Func, GlobalDef, Import, ImportKind, Instr, Limits,
-    List, Mode, Module, Segment, TableType,
+use crate::instructions::{Expr, Instr};
+use crate::lists::List;
+use crate::modules::{
+    Custom, Elem, Export, Func, GlobalDef, Import, ImportKind, Mode, Module, Segment,
 };
+use crate::runs::Value;
+use crate::types::{BlockType, Limits, TableType};
 
 // A value of which something is known by its type.
-trait InRange {
+trait HasRange {
     ghost Range: { Self → Type 0 };
 
     fn see(&self)
         ensures { Range self.now };
 }
 
-fn see_all<T: InRange>(list: &List<T>)
-    ensures { All T.Range list.now }
+fn see_all<T: HasRange>(items: &[T])
+    ensures { All T.Range items.now }
 {
-    let items = list.as_slice();
     for item in items {
         item.see();
     }
+}
+
+fn see_list<T: HasRange>(list: &List<T>)
+    ensures { All T.Range list.now }
+{
+    see_all(list.as_slice());
 }
 
 fn see_option(number: &Option<u32>)
@@ -36,8 +45,8 @@ fn see_option(number: &Option<u32>)
     }
 }
 
-impl InRange for u32 {
-    ghost use Rattle.wasm_write.specs.Ranges.{IsU32};
+impl HasRange for u32 {
+    ghost use Rattle.wasm_ast.specs.Ranges.{IsU32};
 
     ghost Range = { IsU32 };
 
@@ -46,8 +55,8 @@ impl InRange for u32 {
     }
 }
 
-impl InRange for Limits {
-    ghost use Rattle.wasm_write.specs.Ranges.{LimitsInRange};
+impl HasRange for Limits {
+    ghost use Rattle.wasm_ast.specs.Ranges.{LimitsInRange};
 
     ghost Range = { LimitsInRange };
 
@@ -57,8 +66,8 @@ impl InRange for Limits {
     }
 }
 
-impl InRange for TableType {
-    ghost use Rattle.wasm_write.specs.Ranges.{LimitsInRange};
+impl HasRange for TableType {
+    ghost use Rattle.wasm_ast.specs.Ranges.{LimitsInRange};
 
     ghost Range = { λ t. LimitsInRange t.limits };
 
@@ -77,8 +86,8 @@ fn see_block_type(ty: &BlockType)
     }
 }
 
-impl InRange for Instr {
-    ghost use Rattle.wasm_write.specs.Ranges.{InstrInRange};
+impl HasRange for Instr {
+    ghost use Rattle.wasm_ast.specs.Ranges.{InstrInRange};
 
     ghost Range = { InstrInRange };
 
@@ -90,7 +99,7 @@ impl InRange for Instr {
             Instr::Br(x) => x.see(),
             Instr::BrIf(x) => x.see(),
             Instr::BrTable { labels, last } => {
-                see_all(labels);
+                see_list(labels);
                 last.see();
             }
             Instr::Call(x) => x.see(),
@@ -131,24 +140,24 @@ impl InRange for Instr {
     }
 }
 
-impl InRange for List<Instr> {
+impl HasRange for List<Instr> {
     ghost use Rattle.std.specs.Prelude.{All};
-    ghost use Rattle.wasm_write.specs.Ranges.{InstrInRange};
+    ghost use Rattle.wasm_ast.specs.Ranges.{InstrInRange};
 
     ghost Range = { λ instrs. All InstrInRange instrs };
 
     fn see(&self) {
-        see_all(self);
+        see_list(self);
     }
 }
 
-impl InRange for Expr {
-    ghost use Rattle.wasm_write.specs.Ranges.{ExprInRange};
+impl HasRange for Expr {
+    ghost use Rattle.wasm_ast.specs.Ranges.{ExprInRange};
 
     ghost Range = { ExprInRange };
 
     fn see(&self) {
-        see_all(&self.seqs);
+        see_list(&self.seqs);
     }
 }
 
@@ -167,8 +176,8 @@ fn see_name(name: &str)
     ensures { IsUtf8 name.now }
 {}
 
-impl InRange for Import {
-    ghost use Rattle.wasm_write.specs.Ranges.{ImportInRange};
+impl HasRange for Import {
+    ghost use Rattle.wasm_ast.specs.Ranges.{ImportInRange};
 
     ghost Range = { ImportInRange };
 
@@ -179,8 +188,8 @@ impl InRange for Import {
     }
 }
 
-impl InRange for Func {
-    ghost use Rattle.wasm_write.specs.Ranges.{FuncInRange};
+impl HasRange for Func {
+    ghost use Rattle.wasm_ast.specs.Ranges.{FuncInRange};
 
     ghost Range = { FuncInRange };
 
@@ -190,8 +199,8 @@ impl InRange for Func {
     }
 }
 
-impl InRange for GlobalDef {
-    ghost use Rattle.wasm_write.specs.Ranges.{ExprInRange};
+impl HasRange for GlobalDef {
+    ghost use Rattle.wasm_ast.specs.Ranges.{ExprInRange};
 
     ghost Range = { λ g. ExprInRange g.init };
 
@@ -200,8 +209,8 @@ impl InRange for GlobalDef {
     }
 }
 
-impl InRange for Export {
-    ghost use Rattle.wasm_write.specs.Ranges.{ExportInRange};
+impl HasRange for Export {
+    ghost use Rattle.wasm_ast.specs.Ranges.{ExportInRange};
 
     ghost Range = { ExportInRange };
 
@@ -224,28 +233,33 @@ fn see_mode(mode: &Mode)
     }
 }
 
-impl InRange for Elem {
-    ghost use Rattle.wasm_write.specs.Ranges.{ElemInRange};
+impl HasRange for Elem {
+    ghost use Rattle.wasm_ast.specs.Ranges.{ElemInRange};
 
     ghost Range = { ElemInRange };
 
     fn see(&self) {
-        see_all(&self.items);
+        see_list(&self.items);
         see_mode(&self.mode);
     }
 }
 
-impl InRange for Segment {
-    ghost use Rattle.wasm_write.specs.Ranges.{ModeInRange};
+fn see_bytes(bytes: &[u8])
+    ensures { All (λ b. b < 2 ^ 8) bytes.now }
+{}
 
-    ghost Range = { λ s. ModeInRange s.mode };
+impl HasRange for Segment {
+    ghost use Rattle.wasm_ast.specs.Ranges.{SegmentInRange};
+
+    ghost Range = { SegmentInRange };
 
     fn see(&self) {
+        see_bytes(self.bytes.as_slice());
         see_mode(&self.mode);
     }
 }
 
-impl InRange for Custom {
+impl HasRange for Custom {
     ghost use Rattle.std.specs.Prelude.{IsUtf8};
 
     ghost Range = { λ c. IsUtf8 c.name };
@@ -255,18 +269,41 @@ impl InRange for Custom {
     }
 }
 
+impl HasRange for Value {
+    ghost use Rattle.wasm_ast.specs.Ranges.{ValueInRange};
+
+    ghost Range = { ValueInRange };
+
+    fn see(&self) {
+        match self {
+            Value::I32(n) => n.see(),
+            Value::I64(n) => {
+                let _n = *n;
+            }
+            _ => {}
+        }
+    }
+}
+
+/// Law: what the types of values say of their numbers holds of them as data.
+pub fn are_in_range(values: &[Value])
+    ensures { All ValueInRange values.now }
+{
+    see_all(values);
+}
+
 /// Law: what the types of the parts of a module say holds of it as data.
 pub fn is_in_range(m: &Module)
     ensures { IsInRange m.now }
 {
-    see_all(&m.imports);
-    see_all(&m.funcs);
-    see_all(&m.tables);
-    see_all(&m.memories);
-    see_all(&m.globals);
-    see_all(&m.exports);
+    see_list(&m.imports);
+    see_list(&m.funcs);
+    see_list(&m.tables);
+    see_list(&m.memories);
+    see_list(&m.globals);
+    see_list(&m.exports);
     see_option(&m.start);
-    see_all(&m.elems);
-    see_all(&m.segments);
-    see_all(&m.customs);
+    see_list(&m.elems);
+    see_list(&m.segments);
+    see_list(&m.customs);
 }

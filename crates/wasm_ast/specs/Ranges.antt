@@ -1,5 +1,5 @@
--- What the types of a module's parts say of their values: each number fits its type, and each name is UTF-8. Of a module as
--- plain data it has to be said; of each module that a program holds it is so.
+-- What the types of a module's parts, and of the values of a run, say of them: each number fits its type, and each name is
+-- UTF-8 (Structure, Values). Of a module as plain data it has to be said; of each module that a program holds it is so.
 use Rattle.std.specs.Prelude.{ℕ, ◌^◌, ◌<◌, All, IfSome, IsUtf8}
 use Rattle.wasm_ast.specs.declared.types.Limits.{Limits}
 use Rattle.wasm_ast.specs.declared.types.BlockType.{BlockType}
@@ -15,7 +15,10 @@ use Rattle.wasm_ast.specs.declared.modules.Export.{Export}
 use Rattle.wasm_ast.specs.declared.modules.Mode.{Mode}
 use Rattle.wasm_ast.specs.declared.modules.Mode.TheVariants.{Active}
 use Rattle.wasm_ast.specs.declared.modules.Elem.{Elem}
+use Rattle.wasm_ast.specs.declared.modules.Segment.{Segment}
 use Rattle.wasm_ast.specs.declared.modules.Module.{Module}
+use Rattle.wasm_ast.specs.declared.runs.Value.{Value}
+use Rattle.wasm_ast.specs.declared.runs.Value.TheVariants.{I32, I64}
 
 abbrev pub IsU32 : ℕ → Type 0
 IsU32 n = n < 2 ^ 32
@@ -89,6 +92,10 @@ pub record ElemInRange (e : Elem) : Type 0 where
   pub items : All ExprInRange e.items
   pub mode : ModeInRange e.mode
 
+pub record SegmentInRange (s : Segment) : Type 0 where
+  pub bytes : All (λ b. b < 2 ^ 8) s.bytes
+  pub mode : ModeInRange s.mode
+
 pub record IsInRange (m : Module) : Type 0 where
   pub imports : All ImportInRange m.imports
   pub funcs : All FuncInRange m.funcs
@@ -98,5 +105,10 @@ pub record IsInRange (m : Module) : Type 0 where
   pub exports : All ExportInRange m.exports
   pub start : IfSome m.start IsU32
   pub elems : All ElemInRange m.elems
-  pub segments : All (λ s. ModeInRange s.mode) m.segments
+  pub segments : All SegmentInRange m.segments
   pub customs : All (λ c. IsUtf8 c.name) m.customs
+
+abbrev pub ValueInRange : Value → Type 0
+ValueInRange (I32 n) = IsU32 n
+ValueInRange (I64 n) = n < 2 ^ 64
+ValueInRange _ = Unit {0}
