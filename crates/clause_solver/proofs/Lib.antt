@@ -8,4 +8,3 @@ pub mod Analyses
 pub mod Running
 pub mod Models
 pub mod Turning
-pub mod Formulas

@@ -14,4 +14,5 @@ pub mod Least
 pub mod Ends
 pub mod Levels
 pub mod Turns
+pub mod Deciding
 mod Examples
