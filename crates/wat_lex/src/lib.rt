@@ -19,6 +19,7 @@ pub use wasm_text::{LexBad, LexReason, Token, TokenKind};
 use words::token_at;
 
 /// A source, and how far its tokens have been given. Contracts see it as the bytes of the source and a place.
+#[derive(Drop)]
 pub struct Lexer<'a> {
     bytes: &'a [u8],
     at: usize,
