@@ -13,3 +13,9 @@ pub mod WideSteps
 pub mod WideStarts
 pub mod MapRuns
 pub mod ListedRuns
+pub mod AssumeSteps
+pub mod ScriptRuns
+pub mod ScriptLaws
+pub mod ScriptPlaces
+pub mod ScriptAgain
+pub mod ScriptEnds

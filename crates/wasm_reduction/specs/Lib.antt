@@ -13,6 +13,7 @@ pub mod Images
 pub mod Instantiation
 pub mod Runs
 pub mod RunImages
+pub mod Scripts
 pub mod Maps
 pub mod Widths
 pub mod Laws
