@@ -1,4 +1,5 @@
 pub mod ExampleRuns
+pub mod ScriptExampleRuns
 pub mod Moves
 pub mod Endings
 pub mod OneRun

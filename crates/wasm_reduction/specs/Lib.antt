@@ -18,3 +18,4 @@ pub mod Maps
 pub mod Widths
 pub mod Laws
 pub mod Examples
+pub mod ScriptExamples
