@@ -1,6 +1,7 @@
 // The fields of a module (Text Format, Modules).
-ghost use Rattle.std.specs.Prelude.{◌≡◌, ◌++◌, OnOk, All, string_bytes, flat_map};
+ghost use Rattle.std.specs.Prelude.{◌≡◌, ◌++◌, OnOk, All, string_bytes, flat_map, codes, decimal};
 ghost use Rattle.wasm_ast.specs.Shape.{ModeHasShape, ExprHasShape};
+ghost use Rattle.wasm_text.specs.PrintedTypes.{locals_text};
 ghost use Rattle.wasm_text.specs.Printing.{inline_text, import_kind_text, space_word as word_of_space, start_line, elem_mode_text, item_text, data_mode_text};
 
 use crate::expressions::put_expr;
@@ -81,6 +82,17 @@ impl Field for Import {
     }
 }
 
+// Puts the index of a function's type and its locals at the end.
+fn put_func_head(out: &mut String, func: &Func) -> Result<(), AllocError>
+    ensures { OnOk result (string_bytes out.new ≡ string_bytes out.old
+        ++ (codes "(func (type " ++ decimal func.now.ty ++ codes ")" ++ locals_text func.now.locals)) }
+{
+    let ty = func.ty;
+    write!(out, "(func (type {ty})")?;
+    put_locals(out, &func.locals)?;
+    Ok(())
+}
+
 impl Field for Func {
     ghost use Rattle.wasm_ast.specs.Shape.{FuncHasShape};
     ghost use Rattle.wasm_text.specs.Printing.{func_field};
@@ -90,9 +102,7 @@ impl Field for Func {
     ghost text_of = { func_field };
 
     fn put(&self, alloc: Global, out: &mut String) -> Result<(), AllocError> {
-        let ty = self.ty;
-        write!(out, "(func (type {ty})")?;
-        put_locals(out, &self.locals)?;
+        put_func_head(out, self)?;
         put_expr(alloc, out, "\n    ", &self.body)?;
         out.push_str("\n  )")
     }
