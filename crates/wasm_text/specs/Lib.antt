@@ -1,2 +1,6 @@
 pub mod Characters
 pub mod Lexing
+pub mod PrintedInstructions
+pub mod PrintedTypes
+pub mod Printing
+pub mod Words
