@@ -8,3 +8,4 @@ pub mod Analyses
 pub mod Running
 pub mod Models
 pub mod Turning
+pub mod OneAnswer
