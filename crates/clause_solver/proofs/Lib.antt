@@ -3,6 +3,7 @@ pub mod Places
 pub mod Results
 pub mod Numbers
 pub mod Watching
+pub mod Settling
 pub mod Joins
 pub mod Analyses
 pub mod Running
