@@ -3,8 +3,10 @@ pub mod Places
 pub mod Results
 pub mod Numbers
 pub mod Watching
+pub mod Settling
 pub mod Joins
 pub mod Analyses
 pub mod Running
 pub mod Models
 pub mod Turning
+pub mod OneAnswer

@@ -1,5 +1,5 @@
 // Which clauses a turn has to look at.
-ghost use Rattle.std.specs.Prelude.{◌≡◌, ◌≤◌, ◌<◌, ◌⊎◌, ℕ, List, [], ◌∷◌, Some, None, true, length, slice_get, OnOk, MatchOption};
+ghost use Rattle.std.specs.Prelude.{◌≡◌, ◌≤◌, ◌<◌, ◌⊎◌, ℕ, List, [], ◌∷◌, Some, None, true, IsTrue, length, slice_get, OnOk, MatchOption};
 ghost use Rattle.refute_check.specs.Machine.{falsified as falsified_of, forced as forced_of};
 ghost use Rattle.refute_check.specs.Resolution.{has};
 ghost use Rattle.clause_solver.specs.Watching.{IsSeen, AreAmong, Looked};
@@ -85,6 +85,28 @@ impl Candidates {
             }
         }
         None
+    }
+
+    /// Forgets all, and looks at the clause of this number alone, where the others are known to do nothing, else at every
+    /// clause.
+    pub fn look_again(
+        &mut self,
+        trail: &Trail,
+        clauses: &Items<Clause>,
+        number: u64,
+        settled: bool,
+    ) -> Result<(), AllocError>
+        ensures { OnOk result ((IsTrue settled → (falsified forcing : List ℕ) → IsSeen trail.now clauses.now falsified forcing number → (any : ℕ) → IsSeen trail.now clauses.now falsified forcing any)
+            → (any : ℕ) → IsSeen trail.now clauses.now self.new.falsified.keys self.new.forcing.keys any) }
+    {
+        if !settled {
+            self.look_at_all(trail, clauses)?;
+            return Ok(());
+        }
+        self.falsified.clear();
+        self.forcing.clear();
+        self.look_at(trail, clauses, number)?;
+        Ok(())
     }
 
     /// Forgets all, and looks at every clause.

@@ -9,6 +9,7 @@ mod analysis;
 pub mod answer;
 mod candidates;
 pub mod crossing;
+pub mod laws;
 mod lists;
 mod machine;
 mod resolution;

@@ -1,13 +1,14 @@
 // The state of the machine, and its turns.
-ghost use Rattle.std.specs.Prelude.{◌≡◌, ◌+◌, ◌++◌, ◌∷◌, [], ◌^◌, ◌<◌, ℕ, List, Some, None, IfOk, OnOk, slice_get};
+ghost use Rattle.std.specs.Prelude.{◌≡◌, ◌+◌, ◌++◌, ◌∷◌, [], ◌^◌, ◌<◌, ◌≤◌, ℕ, List, Some, None, IsTrue, IfOk, OnOk, slice_get};
 ghost use Rattle.refute_check.specs.Clauses.{variable_of};
-ghost use Rattle.refute_check.specs.Machine.{On as GoesOn, entry_of, turn as turn_of, conflict as conflict_of, decide as decide_of, puts as puts_of, unset as unset_of, start as start_of};
+ghost use Rattle.refute_check.specs.Machine.{On as GoesOn, level_now, highest_but as highest_of, count_at as count_of, cut as cut_to, entry_of, turn as turn_of, conflict as conflict_of, decide as decide_of, puts as puts_of, unset as unset_of, start as start_of};
 ghost use Rattle.refute_check.specs.Orders.{Names};
-ghost use Rattle.refute_check.specs.Rising.{Rises};
+ghost use Rattle.refute_check.specs.Rising.{Rises, level_after};
 ghost use Rattle.clause_solver.specs.Turned.{seen, IsTurn, IsWatched};
 ghost use Rattle.clause_solver.specs.Watching.{opposite, IsListed};
+ghost use Rattle.clause_solver.specs.Settling.{AreIdle, WereIdle};
 
-use crate::analysis::{Until, analysed, highest_but};
+use crate::analysis::{Until, analysed, count_at, highest_but};
 use crate::candidates::Candidates;
 use crate::lists::{Lists, lists_of};
 use crate::rules::unset;
@@ -42,6 +43,8 @@ pub struct State {
     pub candidates: Candidates,
     /// So many variables of the order are set.
     pub ahead: usize,
+    /// Whether it is known that before each decision no clause was falsified or forced a literal.
+    pub settled: bool,
 }
 
 impl State {
@@ -61,6 +64,7 @@ impl State {
             lists,
             candidates,
             ahead: 0,
+            settled: true,
         })
     }
 
@@ -124,20 +128,42 @@ impl State {
             clause,
             Until::Learnt,
         )?;
-        let level = highest_but(
-            &self.trail,
-            self.trail.last_level(),
-            learnt.clause.as_slice(),
-        );
-        self.trail.cut(level);
+        let last = self.trail.last_level();
+        let level = highest_but(&self.trail, last, learnt.clause.as_slice());
         self.log.push(Chain {
             start,
             steps: learnt.steps,
         })?;
-        self.append(alloc, learnt.clause)?;
         self.conflicts += 1;
-        self.look_again()?;
+        self.learn(alloc, learnt.clause, level)?;
         Ok(Turned::On)
+    }
+
+    // Cuts the trail to the highest level of a clause's other literals, and appends the clause.
+    fn learn(&mut self, alloc: Global, clause: Clause, level: u64) -> Result<(), AllocError>
+        requires { level ≡ highest_of self.old.trail (level_now self.old.trail) clause }
+        ensures learnt { OnOk result ((self.new.clauses ≡ self.old.clauses ++ clause ∷ []) × (self.new.trail ≡ cut_to level self.old.trail)
+            × (self.new.log ≡ self.old.log) × (self.new.conflicts ≡ self.old.conflicts)) }
+        ensures watched { OnOk result ((order : List ℕ) → IsWatched order self.old → IsWatched order self.new) }
+    {
+        let settled = self.stays_settled(clause.as_slice(), level);
+        let number = self.clauses.len() as u64;
+        self.trail.cut(level);
+        self.append(alloc, clause)?;
+        self.ahead = 0;
+        self.settled = settled;
+        self.candidates
+            .look_again(&self.trail, &self.clauses, number, settled)?;
+        Ok(())
+    }
+
+    // Whether no clause but this one can do anything once it is learnt, on the trail up to this level: it has a literal of the
+    // last level, which is higher.
+    fn stays_settled(&self, clause: &[u64], level: u64) -> bool
+        ensures { IsTrue result → (IsTrue self.now.settled) × (level < level_now self.now.trail) × (1 ≤ count_of self.now.trail (level_now self.now.trail) clause.now) }
+    {
+        let last = self.trail.last_level();
+        self.settled && level < last && count_at(&self.trail, last, clause) >= 1
     }
 
     // Appends a clause, and lists it.
@@ -152,21 +178,12 @@ impl State {
         Ok(())
     }
 
-    // Looks at all clauses and at the whole order anew.
-    fn look_again(&mut self) -> Result<(), AllocError>
-        ensures kept { OnOk result (seen self.new ≡ seen self.old) }
-        ensures watched { OnOk result ((order : List ℕ) → ((number : ℕ) → IsListed self.old.lists self.old.clauses number) → IsWatched order self.new) }
-    {
-        self.ahead = 0;
-        self.candidates.look_at_all(&self.trail, &self.clauses)?;
-        Ok(())
-    }
-
     // Decides on the first variable that is unset, if there is one.
     fn decide(&mut self, order: &[u64]) -> Result<Turned, AllocError>
         requires rises { Rises self.old.trail }
         requires small { (variable : ℕ) → Names order.now variable → variable < 2 ^ 63 }
         requires watched { IsWatched order.now self.old }
+        requires idle { AreIdle self.old.trail self.old.clauses }
         ensures turned { IfOk result (λ turned. IsTurn turned self.new (decide_of (seen self.old) (unset_of self.old.trail order.now))) }
         ensures watched { OnOk result (IsWatched order.now self.new) }
     {
@@ -187,7 +204,8 @@ impl State {
     fn put(&mut self, entry: Entry) -> Result<(), AllocError>
         requires { entry_of self.old.trail (variable_of entry.literal) ≡ None }
         ensures put { OnOk result (puts_of (seen self.old) entry ≡ GoesOn (seen self.new)) }
-        ensures watched { OnOk result ((order : List ℕ) → IsWatched order self.old → IsWatched order self.new) }
+        ensures watched { OnOk result ((order : List ℕ) → IsWatched order self.old → entry.level ≡ level_after entry.reason self.old.trail
+            → WereIdle entry.reason self.old.trail self.old.clauses → IsWatched order self.new) }
     {
         self.trail.put(entry)?;
         let numbers = self.lists.of(opposite_of(entry.literal));

@@ -15,4 +15,5 @@ pub mod Ends
 pub mod Levels
 pub mod Turns
 pub mod Deciding
+pub mod Latest
 mod Examples

@@ -1,4 +1,4 @@
-use Rattle.std.proofs.Common.{arith}
+use Rattle.std.proofs.Common.{◌∙◌, arith}
 use Rattle.clause_solver.proofs.Turning.{unset_named, unset_free}
 use Rattle.clause_solver.proofs.machine.State.decide.Goals as goal
 
@@ -12,7 +12,12 @@ pub put-requires : goal.put-requires
 put-requires c = unset_free c.args.self.now.trail c.args.order.now c.in-Some.variable c.in-Some.ensures.first
 
 pub returns-in_default-clause-watched : goal.returns-in_default-clause-watched
-returns-in_default-clause-watched c = record { looked = c.requires.watched.looked; listed = c.requires.watched.listed; set = c.unset.ensures.set }
+returns-in_default-clause-watched c =
+    let w = c.requires.watched in
+    record { looked = w.looked; listed = w.listed; set = c.unset.ensures.set; levelled = w.levelled; once = w.once; settled = w.settled }
 
 pub returns-clause-watched : goal.returns-clause-watched
-returns-clause-watched c = c.in_ok-put.ensures.watched c.args.order.now (record { looked = c.requires.watched.looked; listed = c.requires.watched.listed; set = c.unset.ensures.set })
+returns-clause-watched c =
+    let w = c.requires.watched in
+    c.in_ok-put.ensures.watched c.args.order.now (record { looked = w.looked; listed = w.listed; set = c.unset.ensures.set; levelled = w.levelled; once = w.once; settled = w.settled })
+    (c.next_level-level.ensures ∙ omega arith) c.requires.idle

@@ -1,8 +1,9 @@
--- The machine gives one answer.
+-- The machine gives an answer, and only one.
 use Rattle.std.proofs.Common.{◌≡◌, ℕ, zero, suc, List, refl, sym, ap, ◌∙◌, Bool}
 use Rattle.refute_check.specs.Machine.{State, Trail, Turn, On, Model as ModelTurn, Refuted as RefutedTurn, Spent as SpentTurn, turn, then_turn, turns, start}
 use Rattle.refute_check.specs.declared.formulas.Cnf.{Cnf}
-use Rattle.clause_solver.specs.Answers.{values_of, IsAnswer}
+use Rattle.refute_check.proofs.Ends.{machine_ends}
+use Rattle.clause_solver.specs.Answers.{IsFormula, values_of, IsAnswer}
 use Rattle.clause_solver.specs.declared.answer.Answer.{Answer}
 use Rattle.clause_solver.specs.declared.answer.Answer.TheVariants.{Model, Refuted, Spent}
 
@@ -44,3 +45,16 @@ one_answer cnf bound (Refuted l) Spent h k = let e = one_end cnf.order bound h.0
 one_answer cnf bound Spent (Model w) h k = let e = one_end cnf.order bound h.0 k.1.0 (start cnf.clauses) SpentTurn (ModelTurn k.0) h.1 k.1.1 tt tt in cc
 one_answer cnf bound Spent (Refuted m) h k = let e = one_end cnf.order bound h.0 k.0 (start cnf.clauses) SpentTurn (RefutedTurn m) h.1 k.1 tt tt in cc
 one_answer cnf bound Spent Spent h k = refl
+
+-- it ends, with an answer
+pub some_answer : (cnf : Cnf) (bound : ℕ) → IsFormula cnf → (answer : Answer) × IsAnswer cnf bound answer
+some_answer cnf bound f = go (turns cnf.order bound ends.0 (start cnf.clauses)) refl
+  where
+    ends : (n : ℕ) × ((t : State) → turns cnf.order bound n (start cnf.clauses) ≡ On t → ⊥)
+    ends = machine_ends cnf.clauses cnf.order bound f.literals
+
+    go : (x : Turn) → turns cnf.order bound ends.0 (start cnf.clauses) ≡ x → (answer : Answer) × IsAnswer cnf bound answer
+    go (On t) e = absurd (ends.1 t e)
+    go (ModelTurn t) e = (Model (values_of t cnf.vars), (t, (ends.0, e), refl))
+    go (RefutedTurn log) e = (Refuted log, (ends.0, e))
+    go SpentTurn e = (Spent, (ends.0, e))
