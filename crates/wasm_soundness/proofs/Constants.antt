@@ -1,6 +1,6 @@
 -- Constant expressions of a valid module have values of their types.
-use Rattle.std.proofs.Common.{◌≡◌, ℕ, zero, suc, ◌+◌, ◌<◌, List, [], ◌∷◌, ◌++◌, map, length, take, refl, sym, ap, ◌∙◌, subst, inl, inr, arith, append-nil, append_assoc}
-use Rattle.std.specs.Prelude.{All, Bool, true, false, if◌then◌else◌, Option, Some, None, option_map, option_and_then, slice_get}
+use Rattle.std.proofs.Common.{◌≡◌, ℕ, suc, ◌+◌, ◌<◌, List, [], ◌∷◌, ◌++◌, map, length, take, refl, sym, ap, ◌∙◌, subst, arith, append-nil, append_assoc}
+use Rattle.std.specs.Prelude.{All, Bool, true, false, if◌then◌else◌, Some, None, option_map, option_and_then, slice_get}
 use Rattle.std.specs.List.{AllByRecursion}
 use Rattle.std.proofs.lemmas.Bool.{ltb-true}
 use Rattle.std.proofs.lemmas.List.{length-append, length-map, map-append}
@@ -23,15 +23,15 @@ use Rattle.wasm_check.specs.Constants.{IsConstantInstr, constant_context, plain_
 use Rattle.wasm_check.specs.Contexts.{Context, funcs_of}
 use Rattle.wasm_check.specs.Instructions.{Rule, IsTyped}
 use Rattle.wasm_check.specs.Operands.{operands}
-use Rattle.wasm_check.specs.Operators.{arrow, binary, operator_type}
+use Rattle.wasm_check.specs.Operators.{arrow, binary}
 use Rattle.wasm_check.specs.code.Counts.{combines}
 use Rattle.wasm_check.proofs.ConstantLemmas.{of-three, constant-kind, combined-type, same-type, takes-none, gives-kind}
-use Rattle.wasm_reduction.specs.Configurations.{Reference, FuncRef, Value, I32, I64, Ref}
+use Rattle.wasm_reduction.specs.Configurations.{FuncRef, Value, I32, I64, Ref}
 use Rattle.wasm_reduction.specs.Functions.{functions}
 use Rattle.wasm_reduction.specs.Combinators.{valued, word_of}
 use Rattle.wasm_reduction.specs.Instantiation.{combined, operated, constant, evaluated, only_sequence, only_value, value_of, globals_after}
 use Rattle.wasm_reduction.proofs.ImageFunctions.{get-map, function-types}
-use Rattle.wasm_soundness.specs.Values.{ReferenceIs, ValueIs, Hold, ofs}
+use Rattle.wasm_soundness.specs.Values.{ValueIs, Hold, ofs}
 use Rattle.wasm_soundness.proofs.Holding.{hold-match, hold-append, hold-takes, hold-get}
 use Rattle.wasm_soundness.proofs.Steps.{null-is}
 

@@ -1,20 +1,18 @@
 -- A run of a valid module that is ready begins with a configuration that fits.
-use Rattle.std.proofs.Common.{◌≡◌, ℕ, suc, ◌+◌, ◌<◌, List, [], ◌∷◌, ◌++◌, map, length, reverse, take, refl, sym, ap, ◌∙◌, subst, inl, inr, arith, append-nil}
+use Rattle.std.proofs.Common.{◌≡◌, ℕ, suc, ◌+◌, List, [], ◌∷◌, ◌++◌, map, length, reverse, take, refl, sym, ap, ◌∙◌, subst, inl, inr, arith, append-nil}
 use Rattle.std.specs.Prelude.{All, Bool, true, false, nat_lt, if◌then◌else◌, Option, Some, None, option_map, option_and_then, slice_get, slice_set, replicate, Ok, Err}
 use Rattle.std.specs.List.{AllByRecursion}
 use Rattle.std.proofs.lemmas.List.{length-map, length-set}
 use Rattle.std.proofs.lemmas.List.Elements.{All-head, All-tail}
 use Rattle.std.proofs.lemmas.Option.{slice_get_within}
-use Rattle.wasm_ast.specs.Shape.{InstrHasShape, IsReference, SeqHasShape, ExprHasShape, ModeHasShape, ElemHasShape, SegmentHasShape, HasShape}
+use Rattle.wasm_ast.specs.Shape.{IsReference, ExprHasShape, ModeHasShape, ElemHasShape, SegmentHasShape, HasShape}
 use Rattle.wasm_ast.specs.declared.types.ValType.{ValType}
 use Rattle.wasm_ast.specs.declared.types.ValType.TheVariants.{I32 as I32Type, I64 as I64Type, FuncRef as FuncRefType, ExternRef as ExternRefType}
 use Rattle.wasm_ast.specs.declared.types.FuncType.{FuncType}
 use Rattle.wasm_ast.specs.declared.types.TableType.{TableType}
 use Rattle.wasm_ast.specs.declared.types.GlobalType.{GlobalType}
-use Rattle.wasm_ast.specs.declared.instructions.Instr.{Instr}
-use Rattle.wasm_ast.specs.declared.instructions.Instr.TheVariants.{Const32, Const64, RefNull, RefFunc, GlobalGet, Call}
+use Rattle.wasm_ast.specs.declared.instructions.Instr.TheVariants.{Call}
 use Rattle.wasm_ast.specs.declared.instructions.Expr.{Expr}
-use Rattle.wasm_ast.specs.declared.modules.GlobalDef.{GlobalDef}
 use Rattle.wasm_ast.specs.declared.modules.Mode.{Mode}
 use Rattle.wasm_ast.specs.declared.modules.Mode.TheVariants.{Passive, Declared, Active}
 use Rattle.wasm_ast.specs.declared.modules.Elem.{Elem}
@@ -29,25 +27,24 @@ use Rattle.wasm_check.specs.declared.operands.Operand.{Operand}
 use Rattle.wasm_check.specs.declared.operands.Operand.TheVariants.{Of}
 use Rattle.wasm_check.specs.declared.sections.Section.TheVariants.{Globals, Start, Elements, Data}
 use Rattle.wasm_check.specs.Constants.{IsConstant}
-use Rattle.wasm_check.specs.Contexts.{funcs_of, tables_of, globals_of, imported_globals}
+use Rattle.wasm_check.specs.Contexts.{funcs_of, tables_of, globals_of}
 use Rattle.wasm_check.specs.Modules.{StartIsValid, IsOffset, ElemModeIsValid, ElemIsValid, DataModeIsValid, IsValid}
 use Rattle.wasm_check.specs.Operands.{operands}
 use Rattle.wasm_check.specs.Operators.{arrow}
 use Rattle.wasm_image.specs.Entries.{type_of}
 use Rattle.wasm_image.specs.Functions.{function_type}
-use Rattle.wasm_reduction.specs.Configurations.{Reference, FuncRef, Value, I32, I64, Ref, Store, End, Returns, Traps, Fails, Assumes, Stuck}
-use Rattle.wasm_reduction.specs.Functions.{functions}
+use Rattle.wasm_reduction.specs.Configurations.{Reference, Value, I32, I64, Ref, Store, End, Returns, Traps, Fails, Assumes, Stuck}
 use Rattle.wasm_reduction.specs.Combinators.{written, word_of, reference_of}
 use Rattle.wasm_reduction.specs.Tables.{null_of}
 use Rattle.wasm_reduction.specs.Images.{value_image, values_image, end_image}
 use Rattle.wasm_reduction.specs.Instantiation.{reference_in, offset_in, all_of, first_globals, first_elems, first_tables, first_memory, allocated, allocated_with, Instantiated, with_part, in_range, after, drop_elem, drop_data, start_elem, start_data, start_elems, start_datas, instantiated, argument, start_call, invoked, first_config}
-use Rattle.wasm_reduction.proofs.ImageFunctions.{get-map, map-both, function-types}
+use Rattle.wasm_reduction.proofs.ImageFunctions.{get-map}
 use Rattle.wasm_reduction.proofs.WideParts.{each-of}
 use Rattle.wasm_soundness.specs.Values.{ReferenceIs, ValueIs, OperandIs, Hold, ofs}
 use Rattle.wasm_soundness.specs.Configurations.{AreReferences, StoreFits, AreTypedCalls, IsTrap, StartFits}
 use Rattle.wasm_soundness.specs.Laws.{CanBeRun, NamesFunction, Fit}
 use Rattle.wasm_soundness.proofs.Constants.{functions-count, value-there, globals-there}
-use Rattle.wasm_soundness.proofs.Holding.{get-within, hold-get, hold-reverse, references-get, references-set, each-replicate}
+use Rattle.wasm_soundness.proofs.Holding.{get-within, hold-reverse, references-get, references-set, each-replicate}
 use Rattle.wasm_soundness.proofs.Modules.{ModuleFits, module-fits, entries}
 use Rattle.wasm_soundness.proofs.Steps.{null-is, each-written}
 

@@ -51,16 +51,23 @@ combines-both wide op vs us ws new b a y x z is then_is there here sum more =
 
 -- ---- instructions one after another
 
-pub evaluated-more : (globals : List (Value ℕ)) (is : List Instr) (k : ℕ) (i : Instr) (vs ws : List (Value ℕ)) → k < length is → i ≡ get_or is k i → constant globals i vs ≡ Some ws → evaluated globals (drop k is) vs ≡ evaluated globals (drop (k + 1) is) ws
-evaluated-more globals is k i vs ws lt here e =
-    ap (λ l. evaluated globals l vs) (next_is is k i lt here) ∙ ap (option_and_then (evaluated globals (drop (k + 1) is))) e
+-- the first k of the instructions lead from the operands first to vs
+abbrev pub LeadsTo : List (Value ℕ) → List Instr → ℕ → List (Value ℕ) → List (Value ℕ) → Type 0
+LeadsTo globals is k first vs = evaluated globals is first ≡ evaluated globals (drop k is) vs
 
-pub evaluated-lacks : (globals : List (Value ℕ)) (is : List Instr) (k : ℕ) (i : Instr) (vs : List (Value ℕ)) → k < length is → i ≡ get_or is k i → constant globals i vs ≡ None → evaluated globals (drop k is) vs ≡ None
-evaluated-lacks globals is k i vs lt here e =
-    ap (λ l. evaluated globals l vs) (next_is is k i lt here) ∙ ap (option_and_then (evaluated globals (drop (k + 1) is))) e
+pub leads_begin : (globals : List (Value ℕ)) (is : List Instr) (vs : List (Value ℕ)) → LeadsTo globals is 0 vs vs
+leads_begin globals is vs = refl
 
-pub evaluated-end : (globals : List (Value ℕ)) (is : List Instr) (k : ℕ) (vs : List (Value ℕ)) → length is ≤ k → evaluated globals (drop k is) vs ≡ Some vs
-evaluated-end globals is k vs le = ap (λ l. evaluated globals l vs) (none_left is k le)
+pub leads_more : (globals : List (Value ℕ)) (is : List Instr) (k : ℕ) (i : Instr) (first vs ws : List (Value ℕ)) → k < length is → i ≡ get_or is k i → constant globals i vs ≡ Some ws → LeadsTo globals is k first vs → LeadsTo globals is (k + 1) first ws
+leads_more globals is k i first vs ws lt here e h =
+    h ∙ ap (λ l. evaluated globals l vs) (next_is is k i lt here) ∙ ap (option_and_then (evaluated globals (drop (k + 1) is))) e
+
+pub leads_nowhere : (globals : List (Value ℕ)) (is : List Instr) (k : ℕ) (i : Instr) (first vs : List (Value ℕ)) → k < length is → i ≡ get_or is k i → constant globals i vs ≡ None → LeadsTo globals is k first vs → evaluated globals is first ≡ None
+leads_nowhere globals is k i first vs lt here e h =
+    h ∙ ap (λ l. evaluated globals l vs) (next_is is k i lt here) ∙ ap (option_and_then (evaluated globals (drop (k + 1) is))) e
+
+pub leads_end : (globals : List (Value ℕ)) (is : List Instr) (k : ℕ) (first vs : List (Value ℕ)) → length is ≤ k → LeadsTo globals is k first vs → evaluated globals is first ≡ Some vs
+leads_end globals is k first vs le h = h ∙ ap (λ l. evaluated globals l vs) (none_left is k le)
 
 -- ---- expressions
 

@@ -320,13 +320,20 @@ pages_more m i pages l so there small = record {
 
 -- ---- the globals, in the order of their numbers
 
-pub globals_more : (gs : List GlobalDef) (i : ℕ) (done : List (Value ℕ)) (g : GlobalDef) (v : Value ℕ) → i < length gs → g ≡ get_or gs i g → value_of done g.init ≡ Some v → globals_after done (drop i gs) ≡ globals_after (done ++ v ∷ []) (drop (i + 1) gs)
-globals_more gs i done g v lt is found =
-    ap (globals_after done) (next_is gs i g lt is) ∙ ap (option_and_then (λ v. globals_after (done ++ v ∷ []) (drop (i + 1) gs))) found
+-- the first i of the globals have these values, and the others are still to be evaluated
+abbrev pub GlobalsSoFar : List GlobalDef → ℕ → List (Value ℕ) → Type 0
+GlobalsSoFar gs i done = globals_after [] gs ≡ globals_after done (drop i gs)
 
-pub globals_lack : (gs : List GlobalDef) (i : ℕ) (done : List (Value ℕ)) (g : GlobalDef) → i < length gs → g ≡ get_or gs i g → value_of done g.init ≡ None → globals_after done (drop i gs) ≡ None
-globals_lack gs i done g lt is found =
-    ap (globals_after done) (next_is gs i g lt is) ∙ ap (option_and_then (λ v. globals_after (done ++ v ∷ []) (drop (i + 1) gs))) found
+pub globals_begin : (gs : List GlobalDef) → GlobalsSoFar gs 0 []
+globals_begin gs = refl
 
-pub globals_end : (gs : List GlobalDef) (i : ℕ) (done : List (Value ℕ)) → length gs ≤ i → globals_after done (drop i gs) ≡ Some done
-globals_end gs i done le = ap (globals_after done) (none_left gs i le)
+pub globals_more : (gs : List GlobalDef) (i : ℕ) (done : List (Value ℕ)) (g : GlobalDef) (v : Value ℕ) → i < length gs → g ≡ get_or gs i g → value_of done g.init ≡ Some v → GlobalsSoFar gs i done → GlobalsSoFar gs (i + 1) (done ++ v ∷ [])
+globals_more gs i done g v lt is found h =
+    h ∙ ap (globals_after done) (next_is gs i g lt is) ∙ ap (option_and_then (λ v. globals_after (done ++ v ∷ []) (drop (i + 1) gs))) found
+
+pub globals_lack : (gs : List GlobalDef) (i : ℕ) (done : List (Value ℕ)) (g : GlobalDef) → i < length gs → g ≡ get_or gs i g → value_of done g.init ≡ None → GlobalsSoFar gs i done → globals_after [] gs ≡ None
+globals_lack gs i done g lt is found h =
+    h ∙ ap (globals_after done) (next_is gs i g lt is) ∙ ap (option_and_then (λ v. globals_after (done ++ v ∷ []) (drop (i + 1) gs))) found
+
+pub globals_end : (gs : List GlobalDef) (i : ℕ) (done : List (Value ℕ)) → length gs ≤ i → GlobalsSoFar gs i done → globals_after [] gs ≡ Some done
+globals_end gs i done le h = h ∙ ap (globals_after done) (none_left gs i le)

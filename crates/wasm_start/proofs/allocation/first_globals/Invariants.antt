@@ -1,6 +1,7 @@
-use Rattle.std.proofs.Common.{◌≡◌, [], drop, map}
-use Rattle.wasm_reduction.specs.Instantiation.{argument, globals_after}
+use Rattle.std.proofs.Common.{map}
+use Rattle.wasm_reduction.specs.Instantiation.{argument}
+use Rattle.wasm_start.proofs.StartLemmas.{GlobalsSoFar}
 use Rattle.wasm_start.proofs.allocation.first_globals.Given as goal
 
 abbrev pub invariant-loop-global : goal.invariant-loop-global
-invariant-loop-global l = globals_after [] l.m.globals ≡ globals_after (map argument l.globals.items) (drop l.global-index l.m.globals)
+invariant-loop-global l = GlobalsSoFar l.m.globals l.global-index (map argument l.globals.items)
