@@ -2,7 +2,7 @@
 use crate::parts::kinds;
 use crate::words::{Words, words_of};
 use std::alloc::{AllocError, Global};
-use type_words::Endings;
+use type_suffixes::Endings;
 
 // The lists, with commas between them.
 fn lists(alloc: Global, words: &mut Words) -> Result<Endings, AllocError> {

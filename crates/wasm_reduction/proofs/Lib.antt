@@ -11,6 +11,7 @@ pub mod WideParts
 pub mod MapLemmas
 pub mod MapSteps
 pub mod WideSteps
+pub mod ConstantStarts
 pub mod WideStarts
 pub mod MapRuns
 pub mod ListedRuns

@@ -33,9 +33,11 @@ use Rattle.wasm_reduction.specs.Combinators.{written}
 use Rattle.wasm_reduction.specs.Tables.{null_of}
 use Rattle.wasm_reduction.specs.Memories.{page_bytes}
 use Rattle.wasm_reduction.specs.Images.{value_image, values_image, store_image}
-use Rattle.wasm_reduction.specs.Instantiation.{constant, only_instruction, value_of, reference_in, offset_in, all_of, first_globals, first_elems, first_tables, allocated, allocated_with, Instantiated, with_part, in_range, after, start_elem, start_data, start_elems, start_datas, instantiated, argument, start_call, invoked, first_config}
+use Rattle.wasm_reduction.specs.Instantiation.{reference_in, offset_in, all_of, first_globals, first_elems, first_tables, allocated, allocated_with, Instantiated, with_part, in_range, after, start_elem, start_data, start_elems, start_datas, instantiated, argument, start_call, invoked, first_config}
 use Rattle.wasm_reduction.specs.Maps.{ValueHas, ValuesHave, InRange}
 use Rattle.wasm_reduction.specs.Widths.{NumbersFit, ExprFits, HasNumbers, ArgumentFits, IsMemorySize, AreBytes, StoreHasWidths, HasWidths}
+pub use Rattle.wasm_reduction.proofs.ConstantStarts.{some-of, map-of}
+use Rattle.wasm_reduction.proofs.ConstantStarts.{globals-have}
 use Rattle.wasm_reduction.proofs.WideParts.{each-get, each-of, each-set, each-append, written-length, written-all, have-reverse}
 use Rattle.wasm_reduction.proofs.WideSteps.{CodeInRange}
 
@@ -112,33 +114,6 @@ all-are P Q f g [] ys h e = let same : [] ≡ ys = cc in subst (AllByRecursion Q
 all-are P Q f g (x ∷ xs) ys h e =
     let b = both-are (f x) (all_of (map f xs)) ys e in
     subst (AllByRecursion Q) (sym b.both) (g x b.first h.0 b.is_first, all-are P Q f g xs b.others h.1 b.are_others)
-
--- ---- constants
-
-mapped : {A B : Type 0} (f : A → B) (o : Option A) (y : B) → option_map f o ≡ Some y → (x : A) × (f x ≡ y)
-mapped f None y e = absurd cc
-mapped f (Some x) y e = (x, cc)
-
-constant-has : (i : Instr) (v : Value ℕ) → NumbersFit i → constant [] i ≡ Some v → ValueHas HasNumber v
-constant-has (Const32 n) v f e = let same : I32 n ≡ v = cc in subst (ValueHas HasNumber) same f
-constant-has (Const64 n) v f e = let same : I64 n ≡ v = cc in subst (ValueHas HasNumber) same f
-constant-has (RefNull kind) v f e = let r = mapped Ref (null_of kind) v e in subst (ValueHas HasNumber) r.1 tt
-constant-has (RefFunc x) v f e = let same : Ref (FuncRef (Some x)) ≡ v = cc in subst (ValueHas HasNumber) same tt
-constant-has (GlobalGet x) v f e = absurd cc
-constant-has _ v f e = absurd cc
-
-value-has : (seqs : List (List Instr)) (v : Value ℕ) → All (λ is. All NumbersFit is) seqs → option_and_then (constant []) (only_instruction seqs) ≡ Some v → ValueHas HasNumber v
-value-has [] v f e = absurd cc
-value-has ([] ∷ rest) v f e = absurd cc
-value-has ((i ∷ []) ∷ []) v f e = constant-has i v (All-head NumbersFit i [] (All-head (λ is. All NumbersFit is) (i ∷ []) [] f)) e
-value-has ((i ∷ []) ∷ is ∷ rest) v f e = absurd cc
-value-has ((i ∷ j ∷ is) ∷ rest) v f e = absurd cc
-
-globals-have : (gs : List GlobalDef) (vs : List (Value ℕ)) → AllByRecursion (λ g. ExprFits g.init) gs → all_of (map (λ g. value_of [] g.init) gs) ≡ Some vs → ValuesHave HasNumber vs
-globals-have [] vs h e = let same : [] ≡ vs = cc in subst (ValuesHave HasNumber) same tt
-globals-have (g ∷ gs) vs h e =
-    let b = both-are (value_of [] g.init) (all_of (map (λ g. value_of [] g.init) gs)) vs e in
-    subst (ValuesHave HasNumber) (sym b.both) (value-has g.init.seqs b.first h.0 b.is_first, globals-have gs b.others h.1 b.are_others)
 
 -- ---- sizes
 
@@ -246,21 +221,13 @@ datas-start : (k : ℕ) (ds : List Segment) (s : Store ℕ) → StoreHasWidths H
 datas-start k [] s h = h
 datas-start k (d ∷ ds) s h = after-starts (start_data k d.mode s) (start_datas (k + 1) ds) (data-starts k d.mode s h) (λ s h. datas-start (k + 1) ds s h)
 
-pub some-of : {A B : Type 0} (o : Option A) (go : A → Option B) (y : B) → option_and_then go o ≡ Some y → (x : A) × (o ≡ Some x) × (go x ≡ Some y)
-some-of None go y e = absurd cc
-some-of (Some x) go y e = (x, refl, e)
-
-pub map-of : {A B : Type 0} (o : Option A) (go : A → B) (y : B) → option_map go o ≡ Some y → (x : A) × (o ≡ Some x) × (go x ≡ y)
-map-of None go y e = absurd cc
-map-of (Some x) go y e = (x, refl, cc)
-
 allocated-has : (m : Module) (s : Store ℕ) → HasNumbers m → IsValid m → IsReady m → allocated m ≡ Some s → StoreHasWidths HasNumber s
 allocated-has m s h valid ready e =
     let g = some-of (first_globals m) (allocated_with m) s e in
     let el = some-of (first_elems m g.0) _ s g.2 in
     let t = map-of (first_tables m) _ s el.2 in
     subst (StoreHasWidths HasNumber) t.2 (record {
-      globals = globals-have m.globals g.0 (each-of (λ g. ExprFits g.init) m.globals h.globals) g.1;
+      globals = globals-have [] m.globals g.0 tt (each-of (λ g. ExprFits g.init) m.globals h.globals) g.1;
       tables = all-are (λ t. t.limits.min ≤ most_elements) (λ t. length t ≤ most_elements) (λ t. option_map (replicate t.limits.min) (null_of t.kind)) (λ t es l e. nulls-few t (null_of t.kind) es l e) m.tables t.0 (tables-few m ready) t.1;
       memory = zeros m.memories;
       memory_size = memory-few m.memories (λ k l e. (valid Memories k l e).first) (second-part (λ l. l.min ≤ most_pages) (imported_memories m) m.memories (each-of (λ l. l.min ≤ most_pages) (memories_of m) ready.fits.memories));

@@ -8,6 +8,7 @@ use Rattle.wasm_ast.specs.declared.instructions.Instr.{Instr}
 use Rattle.wasm_ast.specs.declared.instructions.Instr.TheVariants.{Unreachable as UnreachableInstr, Nop, Block, Loop, If, Br, BrIf, BrTable, Return, Call, CallIndirect, RefNull, RefIsNull, RefFunc, Discard, Select, SelectTyped, LocalGet, LocalSet, LocalTee, GlobalGet, GlobalSet, TableGet, TableSet, TableInit, ElemDrop, TableCopy, TableGrow, TableSize, TableFill, Load, Store as StoreInstr, MemorySize, MemoryGrow, MemoryInit, DataDrop, MemoryCopy, MemoryFill, Const32, Const64, Num}
 use Rattle.wasm_ast.specs.declared.instructions.Expr.{Expr}
 use Rattle.wasm_ast.specs.declared.modules.ImportKind.TheVariants.{Func as FuncImport}
+use Rattle.wasm_ast.specs.declared.modules.GlobalDef.{GlobalDef}
 use Rattle.wasm_ast.specs.declared.modules.Import.{Import}
 use Rattle.wasm_ast.specs.declared.modules.Func.{Func}
 use Rattle.wasm_ast.specs.declared.modules.Space.TheVariants.{Func as FuncSpace}
@@ -21,7 +22,8 @@ use Rattle.wasm_ast.specs.declared.runs.Value.TheVariants.{I32, I64, Func as Fun
 use Rattle.wasm_ast.specs.declared.runs.Draw.{Draw}
 use Rattle.wasm_rules.specs.Words.{numbers, taken}
 use Rattle.wasm_check.specs.Operators.{arrow}
-use Rattle.wasm_reduction.specs.Configurations.{Reference, FuncRef, Store, Frame}
+use Rattle.wasm_reduction.specs.Configurations.{Reference, FuncRef, I64 as I64Value, Store, Frame}
+use Rattle.wasm_reduction.specs.Instantiation.{offset_in, value_of, first_globals}
 use Rattle.wasm_reduction.specs.Steps.{step}
 use Rattle.wasm_reduction.specs.Runs.{Going, Over, Deep, Reply, Run, no_trace, follow, follow_by, follows, by_value, run_of, IsRun}
 
@@ -307,7 +309,27 @@ starts last = record no_module {
   start = Some 1;
 }
 
+-- globals, and a function that gives one of them
+abbrev pub with_globals : List GlobalDef → ℕ → Module
+with_globals globals x = record no_module {
+  types = arrow [] (I32Type ∷ []) ∷ [];
+  funcs = function_of 0 ((GlobalGet x ∷ []) ∷ []) ∷ [];
+  globals = globals;
+}
+
+-- an i32 that isn't mutable, by these instructions
+abbrev pub fixed_by : List Instr → GlobalDef
+fixed_by code = record { ty = record { kind = I32Type; mutable = false }; init = record { seqs = code ∷ [] } }
+
 pub record InstantiationExamples : Type 0 where
+  pub global_by_one_before : Runs (with_globals (fixed_by (Const32 40 ∷ []) ∷ fixed_by (GlobalGet 0 ∷ Const32 2 ∷ Num 0x6A ∷ []) ∷ []) 1) (returns (I32 42 ∷ []) [])
+  pub global_by_one_after : first_globals (with_globals (fixed_by (GlobalGet 1 ∷ []) ∷ fixed_by (Const32 1 ∷ []) ∷ []) 0) ≡ None
+  pub global_by_itself : first_globals (with_globals (fixed_by (GlobalGet 0 ∷ []) ∷ []) 0) ≡ None
+  pub product_wraps : offset_in [] (record { seqs = (Const32 65536 ∷ Const32 65536 ∷ Num 0x6C ∷ []) ∷ [] }) ≡ Some 0
+  pub difference_wraps : offset_in [] (record { seqs = (Const32 0 ∷ Const32 1 ∷ Num 0x6B ∷ []) ∷ [] }) ≡ Some (2 ^ 32 - 1)
+  pub wide_difference : value_of [] (record { seqs = (Const64 5 ∷ Const64 7 ∷ Const64 3 ∷ Num 0x7E ∷ Num 0x7D ∷ []) ∷ [] }) ≡ Some (I64Value (2 ^ 64 - 16))
+  pub operand_left_over : value_of [] (record { seqs = (Const32 1 ∷ Const32 2 ∷ []) ∷ [] }) ≡ None
+  pub operand_lacks : value_of [] (record { seqs = (Const32 1 ∷ Num 0x6A ∷ []) ∷ [] }) ≡ None
   pub element_at_the_end : Runs (active_element 1) (returns (I32 1 ∷ []) [])
   pub element_past_the_end : Runs (active_element 2) (ends (Traps Table) [])
   pub elements_first : Runs nothing_fits (ends (Traps Table) [])

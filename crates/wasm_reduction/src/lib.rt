@@ -6,6 +6,7 @@
 // nothing; `ranges` reads a module through, so that the bounds of its numbers are known of it as data.
 #![tactic(auto)]
 
+pub mod constants;
 pub mod examples;
 pub mod laws;
 pub mod ranges;

@@ -1,4 +1,5 @@
 // Each law is called once.
+use crate::constants::constants_are_instructions;
 use crate::examples::reduction_examples;
 use crate::laws::{
     bounded_runs_are_listed, bounded_runs_ask_little, bounded_runs_end,
@@ -11,6 +12,7 @@ use wasm_rules::Numbers;
 
 #[test]
 fn laws_take_nothing_and_give_nothing() {
+    constants_are_instructions();
     reduction_examples();
     functions_are_those_of_images();
     bounded_runs_end();
