@@ -1,4 +1,5 @@
 pub mod Characters
+pub mod Comments
 pub mod Lexing
 pub mod PrintedInstructions
 pub mod PrintedTypes
