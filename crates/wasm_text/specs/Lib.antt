@@ -4,4 +4,5 @@ pub mod Lexing
 pub mod PrintedInstructions
 pub mod PrintedTypes
 pub mod Printing
+pub mod Strings
 pub mod Words

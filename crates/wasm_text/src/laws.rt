@@ -3,7 +3,8 @@ ghost use Rattle.std.specs.Prelude.{◌≡◌, ◌+◌, ◌<◌, ◌≤◌, ℕ,
 ghost use Rattle.wasm_text.specs.declared.tokens.Token.{Token as OneToken};
 ghost use Rattle.wasm_text.specs.declared.tokens.LexBad.{LexBad as OneTrouble};
 ghost use Rattle.wasm_text.specs.Comments.{ClosesComment};
-ghost use Rattle.wasm_text.specs.Lexing.{comment_end, next_token, AreTokens};
+ghost use Rattle.wasm_text.specs.Lexing.{comment_end, string_end, next_token, AreTokens};
+ghost use Rattle.wasm_text.specs.Strings.{ClosesString};
 
 /// A law: a source has exactly one list of tokens, with its end or its first trouble.
 pub fn tokens_once(source: &str)
@@ -22,4 +23,10 @@ pub fn token_within(source: &str)
 pub fn comments_close(text: &str)
     ensures found { (at n : ℕ) → comment_end 0 at text.now ≡ Some n → (left : List ℕ) × ClosesComment text.now left × (n + length left ≡ at + length text.now) }
     ensures spelled { (at n : ℕ) (left : List ℕ) → ClosesComment text.now left → n + length left ≡ at + length text.now → comment_end 0 at text.now ≡ Some n }
+{}
+
+/// A law: a string ends where the grammar has its closing quote, and is closed where the grammar closes it.
+pub fn strings_close(text: &str)
+    ensures found { (quote at n : ℕ) → string_end quote 0 at text.now ≡ Ok n → (left : List ℕ) × ClosesString text.now left × (n + length left ≡ at + length text.now) }
+    ensures spelled { (quote at n : ℕ) (left : List ℕ) → ClosesString text.now left → n + length left ≡ at + length text.now → string_end quote 0 at text.now ≡ Ok n }
 {}
