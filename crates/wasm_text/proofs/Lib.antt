@@ -1,0 +1,4 @@
+pub mod CommentLaws
+pub mod StringFound
+pub mod StringLaws
+pub mod TokenLaws

@@ -9,6 +9,7 @@
 // `specs/Printing.antt` says which text is printed of a module (`printed`).
 #![tactic(auto)]
 
+pub mod laws;
 pub mod tokens;
 
 pub use tokens::{LexBad, LexReason, Token, TokenKind};
