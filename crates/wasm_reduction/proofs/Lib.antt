@@ -1,4 +1,5 @@
 pub mod ExampleRuns
+pub mod ScriptExampleRuns
 pub mod Moves
 pub mod Endings
 pub mod OneRun
@@ -13,3 +14,9 @@ pub mod WideSteps
 pub mod WideStarts
 pub mod MapRuns
 pub mod ListedRuns
+pub mod AssumeSteps
+pub mod ScriptRuns
+pub mod ScriptLaws
+pub mod ScriptPlaces
+pub mod ScriptAgain
+pub mod ScriptEnds

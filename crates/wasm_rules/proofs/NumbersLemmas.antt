@@ -1,6 +1,6 @@
 -- Numbers as words.
 use Rattle.std.proofs.Common.{ℕ, ◌^◌, ◌<◌, ◌≤◌, Bool, true, false, List, length, All, arith, subst, sym, ⊎_elim, lt_of_lt_of_le, cond, ◌==◌, ◌/◌}
-use Rattle.std.proofs.lemmas.Nat.{mod_below, pow_pos}
+use Rattle.std.proofs.lemmas.Nat.{mod_below}
 use Rattle.int_ops.proofs.WidthLemmas.{unary-below, binary-below}
 use Rattle.std.proofs.lemmas.Bool.{false≢true}
 use Rattle.int_ops.specs.Bytes.{joined}
@@ -34,5 +34,4 @@ numbers-give = record {
   choose = λ wide c a b some h k. either (HasNumber (bits_where wide)) (c == 0) b a k h;
   byte = λ a i place some. mod_below (a / 256 ^ i) 256 (omega arith);
   join = λ wide bytes count each. joined-fits wide bytes count each;
-  symbol = λ k wide. pow_pos (bits_where wide);
 }

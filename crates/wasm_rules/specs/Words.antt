@@ -68,7 +68,6 @@ pub record Gives {M : Type 0} (K : Kind M) (Has : ℕ → M → Type 0) : Type 0
   pub choose : (wide : Bool) (c a b : M) → HasSome Has c → Has (bits_where wide) a → Has (bits_where wide) b → Has (bits_where wide) (K.choose wide c a b)
   pub byte : (a : M) (i : ℕ) → i < 8 → HasSome Has a → Has 8 (K.byte a i)
   pub join : (wide : Bool) (bytes : List M) → CanJoin wide (length bytes) → All (Has 8) bytes → Has (bits_where wide) (K.join wide bytes)
-  pub symbol : (k : ℕ) (wide : Bool) → Has (bits_where wide) (K.symbol k wide)
 
 -- ---- inputs
 

@@ -7,7 +7,6 @@
 
 mod accesses;
 mod algebra;
-mod drawer;
 pub mod laws;
 mod memory_words;
 #[cfg(test)]
@@ -15,5 +14,4 @@ mod tests;
 
 pub use accesses::Access;
 pub use algebra::{Algebra, Numbers};
-pub use drawer::Drawer;
 pub use memory_words::{load_word, store_bytes};

@@ -1,55 +1,9 @@
 // Words that are plain numbers.
 ghost use Rattle.std.specs.Mem.{FitsInMemory};
 
-use crate::{Access, Algebra, Drawer, Numbers, load_word, store_bytes};
+use crate::{Access, Algebra, Numbers, load_word, store_bytes};
 use std::alloc::AllocError;
 use std::test::Fail;
-
-// Draws from an input of one number.
-#[derive(Drop)]
-struct OneNumber {
-    number: u64,
-    drawn: u64,
-}
-
-impl Drawer<Numbers> for OneNumber {
-    ghost use Rattle.std.specs.Prelude.{◌≡◌, [], ◌∷◌};
-    ghost use Rattle.wasm_rules.specs.Words.{taken};
-
-    ghost symbol = { λ s _ K k wide. K.number (taken (s.number ∷ []) k wide) };
-
-    ghost inputs = { λ s input. input ≡ s.number ∷ [] };
-
-    ghost drawn = { λ s. s.drawn };
-
-    fn draw(&mut self, _algebra: &mut Numbers, wide: bool) -> Result<u64, AllocError> {
-        if self.drawn == u64::MAX {
-            return Err(AllocError);
-        }
-        let number = if self.drawn == 0 { self.number } else { 0 };
-        self.drawn += 1;
-        Ok(if wide { number } else { number % (1 << 32) })
-    }
-}
-
-fn draw_from<A: Algebra, D: Drawer<A>>(
-    algebra: &mut A,
-    drawer: &mut D,
-    wide: bool,
-) -> Result<A::Word, AllocError> {
-    drawer.draw(algebra, wide)
-}
-
-#[test]
-fn draws(rt: HostRuntime) -> Result<(), Fail> {
-    let mut input = OneNumber {
-        number: 0x7_0000_0005,
-        drawn: 0,
-    };
-    assert_eq!(rt; draw_from(&mut Numbers, &mut input, false)?, 5);
-    assert_eq!(rt; draw_from(&mut Numbers, &mut input, true)?, 0);
-    Ok(())
-}
 
 // What the load of the opcode makes of these bytes, where it takes so many.
 fn loaded(op: u8, bytes: &[u64]) -> Option<u64> {
