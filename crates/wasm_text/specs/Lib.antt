@@ -5,4 +5,5 @@ pub mod PrintedInstructions
 pub mod PrintedTypes
 pub mod Printing
 pub mod Strings
+pub mod Tokens
 pub mod Words

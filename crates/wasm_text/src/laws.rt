@@ -1,10 +1,11 @@
 // What follows of the definitions. These functions do nothing; their contracts are the laws.
-ghost use Rattle.std.specs.Prelude.{◌≡◌, ◌+◌, ◌<◌, ◌≤◌, ℕ, List, Option, Ok, Some, length};
+ghost use Rattle.std.specs.Prelude.{◌≡◌, ◌+◌, ◌<◌, ◌≤◌, ℕ, List, Option, Ok, Some, None, length};
 ghost use Rattle.wasm_text.specs.declared.tokens.Token.{Token as OneToken};
 ghost use Rattle.wasm_text.specs.declared.tokens.LexBad.{LexBad as OneTrouble};
 ghost use Rattle.wasm_text.specs.Comments.{ClosesComment};
 ghost use Rattle.wasm_text.specs.Lexing.{comment_end, string_end, next_token, AreTokens};
 ghost use Rattle.wasm_text.specs.Strings.{ClosesString};
+ghost use Rattle.wasm_text.specs.Tokens.{IsNext, IsEnd};
 
 /// A law: a source has exactly one list of tokens, with its end or its first trouble.
 pub fn tokens_once(source: &str)
@@ -29,4 +30,13 @@ pub fn comments_close(text: &str)
 pub fn strings_close(text: &str)
     ensures found { (quote at n : ℕ) → string_end quote 0 at text.now ≡ Ok n → (left : List ℕ) × ClosesString text.now left × (n + length left ≡ at + length text.now) }
     ensures spelled { (quote at n : ℕ) (left : List ℕ) → ClosesString text.now left → n + length left ≡ at + length text.now → string_end quote 0 at text.now ≡ Ok n }
+{}
+
+/// A law: the next token is the one that the grammar has next, after separators and comments; and there is none exactly where
+/// only separators and comments are left.
+pub fn next_by_grammar(source: &str)
+    ensures found { (at : ℕ) (t : OneToken) → at ≤ length source.now → next_token source.now at ≡ Ok (Some t) → IsNext source.now at t }
+    ensures spelled { (at : ℕ) (t : OneToken) → IsNext source.now at t → next_token source.now at ≡ Ok (Some t) }
+    ensures end_found { (at : ℕ) → at ≤ length source.now → next_token source.now at ≡ Ok None → IsEnd source.now at }
+    ensures end_spelled { (at : ℕ) → IsEnd source.now at → next_token source.now at ≡ Ok None }
 {}
