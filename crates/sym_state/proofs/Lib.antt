@@ -1,3 +1,4 @@
 pub mod ScriptLemmas
 pub mod MemberLemmas
 pub mod ExactLemmas
+pub mod ValueLemmas

@@ -1,7 +1,6 @@
 -- What the state of a path stands for: a node, at a place of the runs of all its members at once.
-use Rattle.std.specs.Prelude.{◌≡◌, ◌↔◌, ℕ, Bool, List, length, slice_index}
-use Rattle.wasm_reduction.specs.Configurations.{Config, End, Question, Asks}
-use Rattle.wasm_reduction.specs.Steps.{step}
+use Rattle.std.specs.Prelude.{◌≡◌, ◌↔◌, ℕ, suc, Bool, List, length, slice_index}
+use Rattle.wasm_reduction.specs.Configurations.{Config, End, Question}
 use Rattle.wasm_reduction.specs.Runs.{Turned, On, Over, Ended, Bound, Deep, Stands, by_list, runs, runs_at}
 use Rattle.wasm_reduction.specs.RunImages.{turned_image, trace_of}
 use Rattle.bv_terms.specs.Terms.{Term, value_of}
@@ -86,15 +85,15 @@ Least n p = (draws : List ℕ) × IsLeastOf n draws × SameInput p.least draws
 
 -- ---- before an answer
 
--- the path stands at a question of a term
-abbrev pub IsAtQuestion : Node → Path → Question → Term → Type 0
-IsAtQuestion n p q t = (c : Config Term) × (p.stage ≡ Running c) × (step terms n.invocation.«module» c ≡ Asks q t)
+-- after so many turns the run over terms stands at a question of a term, which its answers do not answer
+abbrev pub IsAtQuestion : Node → ℕ → Question → Term → Type 0
+IsAtQuestion n turns q t = over_terms n (suc turns) ≡ Over (Stands q t) (trace_of (over_terms n turns))
 
 -- The path is still where one of the node n stands at a question, and is already one of the node m, to which an answer leads: its
 -- conditions, choices and input are those of m.
 pub record FollowsBefore (n m : Node) (q : Question) (t : Term) (p : Path) : Type 0 where
   pub place : IsPlace n p
-  pub asks : IsAtQuestion n p q t
+  pub asks : IsAtQuestion n place.turns q t
   pub members : (input : List ℕ) → AreMet input p.conditions ↔ IsMember m input
   pub conditions : p.conditions ≡ m.conditions
   pub choices : p.choices ≡ m.choices

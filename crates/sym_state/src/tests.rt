@@ -1,8 +1,13 @@
 // Each law is called once.
-use crate::laws::{conditions_say_who_is_a_member, roots_are_exact};
+use crate::laws::{
+    conditions_say_who_is_a_member, roots_are_exact, runs_over_terms_stand_for_all,
+    values_keep_operations,
+};
 
 #[test]
 fn laws_take_nothing_and_give_nothing() {
     roots_are_exact();
     conditions_say_who_is_a_member();
+    values_keep_operations();
+    runs_over_terms_stand_for_all();
 }
