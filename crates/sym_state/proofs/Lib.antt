@@ -2,3 +2,5 @@ pub mod ScriptLemmas
 pub mod MemberLemmas
 pub mod ExactLemmas
 pub mod ValueLemmas
+pub mod PlaceLemmas
+pub mod SideLemmas

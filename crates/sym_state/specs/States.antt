@@ -1,11 +1,13 @@
 -- What the state of a path stands for: a node, at a place of the runs of all its members at once.
-use Rattle.std.specs.Prelude.{◌≡◌, ◌↔◌, ℕ, suc, Bool, List, length, slice_index}
+use Rattle.std.specs.Prelude.{◌≡◌, ◌↔◌, ℕ, suc, ◌+◌, Bool, true, List, [], ◌∷◌, ◌++◌, length, slice_index}
 use Rattle.wasm_reduction.specs.Configurations.{Config, End, Question}
+use Rattle.wasm_reduction.specs.Steps.{answered}
 use Rattle.wasm_reduction.specs.Runs.{Turned, On, Over, Ended, Bound, Deep, Stands, by_list, runs, runs_at}
 use Rattle.wasm_reduction.specs.RunImages.{turned_image, trace_of}
 use Rattle.bv_terms.specs.Terms.{Term, value_of}
 use Rattle.bv_terms.specs.Making.{terms}
 use Rattle.sym_state.specs.Nodes.{Condition, AreMet, Node, IsMember, IsLeastOf}
+use Rattle.sym_state.specs.NextNodes.{bit}
 
 -- ---- states of paths
 
@@ -98,3 +100,21 @@ pub record FollowsBefore (n m : Node) (q : Question) (t : Term) (p : Path) : Typ
   pub conditions : p.conditions ≡ m.conditions
   pub choices : p.choices ≡ m.choices
   pub least : IsMember m p.least
+
+-- ---- what the calls make of a path
+
+-- a condition and a choice more, with an input that takes the path
+abbrev pub sided : Path → Term → Bool → List ℕ → Path
+sided p t side input = record p { conditions = p.conditions ++ (t, side) ∷ []; choices = p.choices ++ bit side ∷ []; least = input }
+
+-- a condition more, that an assume's term isn't 0
+abbrev pub supposed : Path → Term → List ℕ → Path
+supposed p t input = record p { conditions = p.conditions ++ (t, true) ∷ []; least = input }
+
+-- the answer is noted, and the question is one more that was asked and answered
+abbrev pub answered_stage : Stage → ℕ → Stage
+answered_stage (Running c) answer = Running (answered c answer)
+answered_stage (Unbegun e) answer = Unbegun e
+
+abbrev pub resumed : Path → ℕ → Path
+resumed p answer = record p { stage = answered_stage p.stage answer; asks = p.asks + 1 }

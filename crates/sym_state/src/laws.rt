@@ -1,5 +1,5 @@
 // Laws of nodes.
-ghost use Rattle.std.specs.Prelude.{◌≡◌, ◌≢◌, ℕ, Bool, true, false, List};
+ghost use Rattle.std.specs.Prelude.{◌≡◌, ◌≢◌, ℕ, Bool, true, false, List, [], ◌∷◌, ◌++◌};
 ghost use Rattle.wasm_reduction.specs.Configurations.{Question, Test, Pick, Assume};
 ghost use Rattle.wasm_rules.specs.Words.{numbers, taken};
 ghost use Rattle.wasm_reduction.specs.Maps.{KeepsOperations};
@@ -7,8 +7,8 @@ ghost use Rattle.wasm_reduction.specs.Runs.{Trace, Over, Stands};
 ghost use Rattle.wasm_reduction.specs.RunImages.{IsAnswered, KeepsSymbols, turned_image};
 ghost use Rattle.bv_terms.specs.Terms.{HasBits, Term, value_of};
 ghost use Rattle.bv_terms.specs.Making.{terms};
-ghost use Rattle.sym_state.specs.States.{over_terms, run_at};
-ghost use Rattle.sym_state.specs.Nodes.{CanExplore, Invocation, Node, IsMember, root};
+ghost use Rattle.sym_state.specs.States.{Follows, FollowsBefore, IsAtQuestion, Path, over_terms, resumed, run_at, sided, supposed};
+ghost use Rattle.sym_state.specs.Nodes.{AreMet, CanExplore, Invocation, IsMember, IsMet, Node, root};
 ghost use Rattle.sym_state.specs.NextNodes.{IsExact, IsOther, MembersAnswer, MembersAsk, assumed, gone_on, pick_side, test_side};
 
 /// Every input is a member of the root of a valid and ready module with fitting arguments, and meets its conditions, of which
@@ -42,4 +42,21 @@ pub fn values_keep_operations()
 pub fn runs_over_terms_stand_for_all()
     ensures values { (n : Node) (input : List ℕ) (turns : ℕ) → CanExplore n.invocation → IsMember n input → IsAnswered (over_terms n turns) → run_at n input turns ≡ turned_image (value_of input) (over_terms n turns) }
     ensures asks { (n : Node) (q : Question) (t : Term) (turns : ℕ) (trace : Trace) → CanExplore n.invocation → over_terms n turns ≡ Over (Stands q t) trace → MembersAsk n q t }
+{}
+
+/// What the calls make of the state of a path stands for the next node. Where a path of a node stands at a question of a term, and
+/// the inputs given meet the conditions and are on their sides: a side of a test, or side 0 of a pick, or the path that
+/// supposes an assume, stands for its node before its answer, and side 1 of a pick for its node at once.
+pub fn sides_stand_for_their_nodes()
+    ensures tests { (n : Node) (p : Path) (t : Term) (side : Bool) (input : List ℕ) → CanExplore n.invocation → (h : Follows n p) → IsAtQuestion n h.place.turns Test t → AreMet input p.conditions → IsMet input (t, side) → FollowsBefore n (test_side n t side) Test t (sided p t side input) }
+    ensures picks { (n : Node) (p : Path) (t other : Term) (a : ℕ) (input : List ℕ) → CanExplore n.invocation → (h : Follows n p) → IsAtQuestion n h.place.turns Pick t → IsOther other t a → AreMet input p.conditions → IsMet input (other, false) → FollowsBefore n (pick_side n other a false) Pick t (sided p other false input) }
+    ensures others { (n : Node) (p : Path) (t other : Term) (a : ℕ) (input : List ℕ) → CanExplore n.invocation → (h : Follows n p) → IsAtQuestion n h.place.turns Pick t → IsOther other t a → AreMet input p.conditions → IsMet input (other, true) → Follows (pick_side n other a true) (sided p other true input) }
+    ensures assumes { (n : Node) (p : Path) (t : Term) (input : List ℕ) → CanExplore n.invocation → (h : Follows n p) → IsAtQuestion n h.place.turns Assume t → AreMet input p.conditions → IsMet input (t, true) → FollowsBefore n (assumed n t) Assume t (supposed p t input) }
+{}
+
+/// An answer leads a path to the node that it stood for before that answer. Where all members answer a question alike, and no
+/// assume is failed, it leads a path that stands for a node to the node that goes on.
+pub fn answers_lead_on()
+    ensures before { (n m : Node) (q : Question) (t : Term) (p : Path) (answer : ℕ) → CanExplore n.invocation → m.invocation ≡ n.invocation → m.answers ≡ n.answers ++ answer ∷ [] → FollowsBefore n m q t p → Follows m (resumed p answer) }
+    ensures goes_on { (n : Node) (q : Question) (t : Term) (p : Path) (answer : ℕ) → CanExplore n.invocation → (h : Follows n p) → IsAtQuestion n h.place.turns q t → MembersAnswer n q t answer → (q ≡ Assume → answer ≢ 0) → Follows (gone_on n answer) (resumed p answer) }
 {}

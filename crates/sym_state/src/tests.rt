@@ -1,7 +1,7 @@
 // Each law is called once.
 use crate::laws::{
-    conditions_say_who_is_a_member, roots_are_exact, runs_over_terms_stand_for_all,
-    values_keep_operations,
+    answers_lead_on, conditions_say_who_is_a_member, roots_are_exact,
+    runs_over_terms_stand_for_all, sides_stand_for_their_nodes, values_keep_operations,
 };
 
 #[test]
@@ -10,4 +10,6 @@ fn laws_take_nothing_and_give_nothing() {
     conditions_say_who_is_a_member();
     values_keep_operations();
     runs_over_terms_stand_for_all();
+    sides_stand_for_their_nodes();
+    answers_lead_on();
 }
