@@ -1,0 +1,6 @@
+pub mod ScriptLemmas
+pub mod MemberLemmas
+pub mod ExactLemmas
+pub mod ValueLemmas
+pub mod PlaceLemmas
+pub mod SideLemmas
