@@ -9,6 +9,7 @@ pub mod ListLemmas
 pub mod GraphLemmas
 mod KeyLemmas
 mod IndexLemmas
+mod MergeLemmas
 mod FitLemmas
 mod OperationFits
 pub mod MakeLemmas

@@ -4,6 +4,7 @@ ghost use Rattle.std.specs.Arc.{arc_value};
 ghost use Rattle.bv_terms.specs.Index.{form_of, all_forms};
 
 use crate::key::{Key, key_of};
+use crate::merging::absorbed;
 use crate::segment::Segment;
 use crate::words::Form;
 use std::alloc::{AllocError, Global};
@@ -108,6 +109,28 @@ impl Forms {
         ensures err { OnErr result (self.new ≡ self.old) }
     {
         self.own.push(form, key)
+    }
+
+    /// Equal forms, in fewer segments where the last ones are small. It takes time and memory by the number of these.
+    pub fn merged(self) -> Forms
+        ensures { result ≡ self }
+    {
+        let Forms {
+            full,
+            own,
+            before,
+            alloc,
+        } = self;
+        let mut full = full;
+        let count = before + own.len() as u64;
+        let last = absorbed(&mut full, own, alloc);
+        let before = count - last.len() as u64;
+        Forms {
+            full,
+            own: last,
+            before,
+            alloc,
+        }
     }
 
     /// Equal forms twice, which share their segments. Where memory is wanting, they come back.

@@ -107,7 +107,7 @@ impl Graph {
             drawn,
             alloc,
         } = self;
-        match forms.share() {
+        match forms.merged().share() {
             Ok((one, other)) => Ok((
                 Graph {
                     forms: one,

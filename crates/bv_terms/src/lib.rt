@@ -13,6 +13,7 @@ mod forms;
 mod graph;
 mod key;
 pub mod laws;
+mod merging;
 mod operations;
 mod rules;
 mod segment;
