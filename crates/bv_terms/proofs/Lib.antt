@@ -7,10 +7,11 @@ mod SymbolLemmas
 pub mod KindLemmas
 pub mod ListLemmas
 pub mod GraphLemmas
-mod FindLemmas
+mod KeyLemmas
+mod IndexLemmas
+mod MergeLemmas
 mod FitLemmas
 mod OperationFits
 pub mod MakeLemmas
 mod ValueLemmas
 mod WalkLemmas
-mod TestLemmas

@@ -73,7 +73,7 @@ fn under_eqz(forms: &Forms, word: Word) -> Option<Word>
 {
     match word {
         Word::Num(_) => None,
-        Word::Term(t) => match forms.get((t - FIRST) as usize) {
+        Word::Term(t) => match forms.get(t - FIRST) {
             Form::Un { op, a } => operand_where_eqz(forms, *op, *a),
             _ => None,
         },
@@ -95,7 +95,7 @@ fn is_comparison(forms: &Forms, word: Word) -> bool
 {
     match word {
         Word::Num(_) => false,
-        Word::Term(t) => form_compares(forms.get((t - FIRST) as usize)),
+        Word::Term(t) => form_compares(forms.get(t - FIRST)),
     }
 }
 

@@ -11,11 +11,12 @@ mod comparisons;
 pub mod crossing;
 mod forms;
 mod graph;
+mod key;
 pub mod laws;
+mod merging;
 mod operations;
 mod rules;
-#[cfg(test)]
-mod tests;
+mod segment;
 mod values;
 mod words;
 

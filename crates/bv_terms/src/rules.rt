@@ -196,7 +196,7 @@ fn byte_of_word(forms: &Forms, a: Word, i: u32) -> Option<Word>
 {
     match a {
         Word::Num(_) => None,
-        Word::Term(t) => match forms.get((t - FIRST) as usize) {
+        Word::Term(t) => match forms.get(t - FIRST) {
             Form::Join { wide: _, bytes } => Some(byte_at(bytes.as_slice(), i as usize)),
             _ => None,
         },
@@ -245,7 +245,7 @@ fn whole_from(forms: &Forms, wide: bool, bytes: &[Word], first: Word) -> Option<
 {
     match first {
         Word::Num(_) => None,
-        Word::Term(t) => match forms.get((t - FIRST) as usize) {
+        Word::Term(t) => match forms.get(t - FIRST) {
             Form::Byte { a, i: _ } => where_whole(forms, wide, bytes, *a),
             _ => None,
         },
@@ -289,7 +289,7 @@ fn width(forms: &Forms, word: Word) -> u32
 {
     match word {
         Word::Num(_) => 0,
-        Word::Term(t) => width_of_form(forms.get((t - FIRST) as usize)),
+        Word::Term(t) => width_of_form(forms.get(t - FIRST)),
     }
 }
 
@@ -353,7 +353,7 @@ fn is_byte(forms: &Forms, word: Word, a: Word, i: u32) -> bool
 {
     match word {
         Word::Num(_) => false,
-        Word::Term(t) => match forms.get((t - FIRST) as usize) {
+        Word::Term(t) => match forms.get(t - FIRST) {
             Form::Byte { a: b, i: j } => are_equal(*b, *j, a, i),
             _ => false,
         },
