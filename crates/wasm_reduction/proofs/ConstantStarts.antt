@@ -33,12 +33,12 @@ map-of (Some x) go y e = (x, refl, cc)
 
 -- ---- widths
 
-sum32 : (op : ℕ) → is_from 0x6A 0x6C op ≡ true → IsBinary op 32 32
+pub sum32 : (op : ℕ) → is_from 0x6A 0x6C op ≡ true → IsBinary op 32 32
 unfolding operator_of
 sum32 op e = of-three 0x6A op (λ op. IsBinary op 32 32) e
     (record { binary = refl; operand_is = refl; result_is = refl }) (record { binary = refl; operand_is = refl; result_is = refl }) (record { binary = refl; operand_is = refl; result_is = refl })
 
-sum64 : (op : ℕ) → is_from 0x7C 0x7E op ≡ true → IsBinary op 64 64
+pub sum64 : (op : ℕ) → is_from 0x7C 0x7E op ≡ true → IsBinary op 64 64
 unfolding operator_of
 sum64 op e = of-three 0x7C op (λ op. IsBinary op 64 64) e
     (record { binary = refl; operand_is = refl; result_is = refl }) (record { binary = refl; operand_is = refl; result_is = refl }) (record { binary = refl; operand_is = refl; result_is = refl })

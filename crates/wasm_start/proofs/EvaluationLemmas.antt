@@ -1,6 +1,7 @@
 -- Laws of the evaluation of constant expressions on a stack.
-use Rattle.std.proofs.Common.{◌≡◌, ℕ, zero, suc, ◌+◌, ◌<◌, ◌≤◌, List, [], ◌∷◌, ◌++◌, map, reverse, length, drop, get_or, refl, sym, ap, ◌∙◌, subst, arith, map-append, reverse-append}
-use Rattle.std.specs.Prelude.{Bool, true, false, Option, Some, None, option_map, option_and_then}
+use Rattle.std.proofs.Common.{◌≡◌, ℕ, ◌+◌, ◌<◌, ◌≤◌, List, [], ◌∷◌, ◌++◌, map, reverse, length, drop, get_or, refl, sym, ap, ◌∙◌, arith}
+use Rattle.std.proofs.lemmas.List.{length-map, length-reverse, map-append, reverse-append}
+use Rattle.std.specs.Prelude.{Bool, true, false, Option, Some, None, MatchOption, option_map, option_and_then}
 use Rattle.wasm_ast.specs.declared.runs.Value.{Value as PlainValue}
 use Rattle.wasm_ast.specs.declared.instructions.Instr.{Instr}
 use Rattle.wasm_ast.specs.declared.instructions.Expr.{Expr}
@@ -24,6 +25,14 @@ stack-empty (v ∷ items) e = absurd (omega (arith, e))
 pub stack-one : (v : PlainValue) → stack_of (v ∷ []) ≡ argument v ∷ []
 unfolding stack_of
 stack-one v = refl
+
+pub stack-none : (items new : List PlainValue) → items ≡ new ++ [] → length new ≡ 0 → stack_of items ≡ []
+stack-none items [] is e = ap stack_of is ∙ stack-empty [] refl
+stack-none items (v ∷ new) is e = absurd (omega (arith, e))
+
+stack-length : (items : List PlainValue) → length (stack_of items) ≡ length items
+unfolding stack_of
+stack-length items = length-reverse (map argument items) ∙ length-map items argument
 
 -- ---- two operands
 
@@ -79,6 +88,35 @@ no-sequence globals e none = ap (option_and_then (λ is. option_and_then only_va
     lacks (is ∷ []) none = absurd (none is refl)
     lacks (is ∷ js ∷ rest) none = refl
 
-pub value-by : (globals : List (Value ℕ)) (e : Expr) (is : List Instr) (o : Option (List (Value ℕ))) → e.seqs ≡ is ∷ [] → evaluated globals is [] ≡ o → value_of globals e ≡ option_and_then only_value o
+value-by : (globals : List (Value ℕ)) (e : Expr) (is : List Instr) (o : Option (List (Value ℕ))) → e.seqs ≡ is ∷ [] → evaluated globals is [] ≡ o → value_of globals e ≡ option_and_then only_value o
 value-by globals e is o alone come =
     ap (λ seqs. option_and_then (λ is. option_and_then only_value (evaluated globals is [])) (only_sequence seqs)) alone ∙ ap (option_and_then only_value) come
+
+-- what the instructions of the only sequence come to, on a stack that was empty
+module _ (globals : List (Value ℕ)) (e : Expr) (is slice : List Instr) (items : List PlainValue) (alone : e.seqs ≡ is ∷ []) (same : slice ≡ is) (empty : items ≡ []) where
+  comes : (o : Option (List (Value ℕ))) → evaluated globals slice (stack_of items) ≡ o → evaluated globals is [] ≡ o
+  comes o come = ap (λ l. evaluated globals l []) (sym same) ∙ ap (evaluated globals slice) (sym (ap stack_of empty ∙ stack-empty [] refl)) ∙ come
+
+  pub value-lacks : (b : Bool) (vs : List (Value ℕ)) → Applied b (evaluated globals slice (stack_of items)) vs → b ≡ false → value_of globals e ≡ None
+  value-lacks true vs h not = cc
+  value-lacks false vs h not = value-by globals e is None alone (comes None h)
+
+  many : (vs : List (Value ℕ)) → (length vs ≡ 1 → ⊥) → only_value vs ≡ None
+  many [] h = refl
+  many (v ∷ []) h = absurd (h refl)
+  many (v ∷ w ∷ vs) h = refl
+
+  pub value-only : (b : Bool) (new values : List PlainValue) (o : Option PlainValue) → Applied b (evaluated globals slice (stack_of items)) (stack_of new) → b ≡ true → values ≡ new → MatchOption o ((v : PlainValue) → values ≡ v ∷ [] → ⊥) (λ v. values ≡ v ∷ []) →
+      MatchOption o (value_of globals e ≡ None) (λ v. value_of globals e ≡ Some (argument v))
+  value-only false new values o h took at only = absurd cc
+  value-only true new values None h took at only =
+      value-by globals e is (Some (stack_of new)) alone (comes (Some (stack_of new)) h)
+      ∙ many (stack_of new) (λ one. single values (ap length at ∙ sym (stack-length new) ∙ one) only)
+    where
+      single : (values : List PlainValue) → length values ≡ 1 → ((v : PlainValue) → values ≡ v ∷ [] → ⊥) → ⊥
+      single [] e not = omega (arith, e)
+      single (v ∷ []) e not = not v refl
+      single (v ∷ w ∷ vs) e not = omega (arith, e)
+  value-only true new values (Some v) h took at only =
+      value-by globals e is (Some (stack_of new)) alone (comes (Some (stack_of new)) h)
+      ∙ ap only_value (ap stack_of (sym at ∙ only) ∙ stack-one v)

@@ -1,5 +1,5 @@
 -- Laws of instantiation.
-use Rattle.std.proofs.Common.{◌≡◌, ℕ, zero, suc, ◌+◌, ◌-◌, ◌*◌, ◌<◌, ◌≤◌, List, [], ◌∷◌, ◌++◌, take, drop, length, map, flat_map, get_or, refl, sym, ap, ◌∙◌, subst, arith, append-nil, append_assoc}
+use Rattle.std.proofs.Common.{◌≡◌, ℕ, zero, suc, ◌+◌, ◌*◌, ◌<◌, ◌≤◌, List, [], ◌∷◌, ◌++◌, take, drop, length, map, flat_map, get_or, refl, sym, ap, ◌∙◌, subst, arith, append-nil, append_assoc}
 use Rattle.std.specs.Prelude.{Bool, true, false, Option, Some, None, option_map, option_and_then, slice_get, slice_set, replicate, Ok, Err}
 use Rattle.std.specs.List.{AllByRecursion}
 use Rattle.wasm_ast.specs.declared.types.Limits.{Limits}
@@ -36,7 +36,7 @@ next_is [] i x lt is = absurd (omega arith)
 next_is (y ∷ ys) zero x lt is = let same : x ≡ y = is in rw same refl
 next_is (y ∷ ys) (suc i) x lt is = let e : suc i + 1 ≡ suc (i + 1) = omega arith in rw e (next_is ys i x (omega arith) is)
 
-none_left : {A : Type 0} (xs : List A) (i : ℕ) → length xs ≤ i → drop i xs ≡ []
+pub none_left : {A : Type 0} (xs : List A) (i : ℕ) → length xs ≤ i → drop i xs ≡ []
 none_left [] zero le = refl
 none_left [] (suc i) le = refl
 none_left (x ∷ xs) zero le = absurd (omega arith)

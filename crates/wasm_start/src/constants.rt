@@ -1,8 +1,9 @@
 // Constant expressions (Validation, Instructions: Constant Expressions; Execution, Modules: Instantiation), evaluated by their
 // instructions on a stack of plain values.
-ghost use Rattle.std.specs.Prelude.{◌≡◌, ◌∷◌, [], IfOk, List as Instrs, MatchOption, OnOk, None, map, true};
+ghost use Rattle.std.specs.Prelude.{◌≡◌, ◌∷◌, [], IfOk, List as Instrs, MatchOption, OnOk, None, false, map, true};
 ghost use Rattle.wasm_ast.specs.Opcodes.{is_from as is_from_to};
 ghost use Rattle.wasm_ast.specs.declared.instructions.Instr.{Instr as AnInstr};
+ghost use Rattle.wasm_ast.specs.declared.runs.Value.{Value as PlainValue};
 ghost use Rattle.wasm_rules.specs.Words.{numbers};
 ghost use Rattle.wasm_reduction.specs.Configurations.{I32 as OfI32, I64 as OfI64, Ref as OfRef};
 ghost use Rattle.wasm_reduction.specs.Instantiation.{argument, combined, operated, constant as constant_of, evaluated, value_of as value_in, reference_in, offset_in};
@@ -65,7 +66,10 @@ fn push(stack: &mut Vec<Value>, v: Value) -> Result<(), AllocError>
 fn pop(stack: &mut Vec<Value>) -> Option<Value>
     ensures { MatchOption result (stack_of stack.old.items ≡ []) (λ v. stack_of stack.old.items ≡ argument v ∷ stack_of stack.new.items) }
 {
-    stack.pop()
+    match stack.pop() {
+        None => None,
+        Some(v) => Some(v),
+    }
 }
 
 // Takes the last operand, where it is an i32.
@@ -196,6 +200,16 @@ fn only_sequence(e: &Expr) -> Option<&List<Instr>>
     }
 }
 
+// The value of a list that has only one.
+fn only_value(values: &[Value]) -> Option<Value>
+    ensures { MatchOption result ((v : PlainValue) → values.now ≡ v ∷ [] → ⊥) (λ v. values.now ≡ v ∷ []) }
+{
+    match values {
+        [v] => Some(*v),
+        _ => None,
+    }
+}
+
 // The value of a constant expression, where the globals have these values.
 pub(crate) fn value_of(
     alloc: Global,
@@ -211,10 +225,7 @@ pub(crate) fn value_of(
     if !evaluate(globals, instrs.as_slice(), &mut stack)? {
         return Ok(None);
     }
-    match stack.as_slice() {
-        [v] => Ok(Some(*v)),
-        _ => Ok(None),
-    }
+    Ok(only_value(stack.as_slice()))
 }
 
 // The reference that a constant expression gives.

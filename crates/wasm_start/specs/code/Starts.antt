@@ -2,7 +2,7 @@
 use Rattle.std.specs.Prelude.{◌≡◌, ℕ, ◌<◌, List, [], Bool, false, map, length, MatchOption, Option, Some, None, Result, Ok, Err}
 use Rattle.std.specs.List.{AllByRecursion}
 use Rattle.wasm_ast.specs.declared.modules.Module.{Module}
-use Rattle.wasm_reduction.specs.Configurations.{Value, Store}
+use Rattle.wasm_reduction.specs.Configurations.{Store}
 use Rattle.wasm_ast.specs.declared.runs.Value.{Value as Argument}
 use Rattle.wasm_reduction.specs.Instantiation.{Instantiated, instantiated, argument}
 use Rattle.wasm_machine.specs.declared.machine.Frame.{Frame as CodeFrame}

@@ -13,7 +13,7 @@ pub returns-clause-writes : goal.returns-clause-writes
 returns-clause-writes g c = λ x b cells bytes.
     let p : PlainStore = record { globals = c.p.inside.globals.items; tables = map (λ t. t.items) c.p.inside.tables.items; elems = map (λ t. t.items) c.p.inside.elems.items; dropped = c.p.inside.dropped.items } in
     let contents : List ℕ = c.data_of-bytes.result.now in
-    let at : offset_in (map argument p.globals) c.args.offset.now ≡ Some c.in-Some.place = rw c.as_slice.ensures.value at (sym c.in-Some.ensures) in
+    let at : offset_in (map argument p.globals) c.args.offset.now ≡ Some c.in-Some.place = rw c.as_slice.ensures.value at (sym (rw c.in-Some.is at c.in_ok-place.ensures)) in
     let held : slice_get (datas_of p.dropped c.args.m.now.segments) c.args.k ≡ Some contents = rw c.as_slice-2.ensures.value at c.data_of-bytes.ensures in
     let new : List ℕ = written c.in-Some.place contents b in (
       new,
