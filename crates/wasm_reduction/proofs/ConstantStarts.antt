@@ -19,7 +19,7 @@ use Rattle.wasm_reduction.specs.Maps.{ValueHas, ValuesHave}
 use Rattle.wasm_reduction.specs.Numeric.{numeric}
 use Rattle.wasm_reduction.specs.Steps.{act}
 use Rattle.wasm_reduction.specs.Tables.{null_of}
-use Rattle.wasm_reduction.specs.Widths.{NumbersFit, ExprFits}
+use Rattle.wasm_ast.specs.Ranges.{InstrInRange, ExprInRange}
 use Rattle.wasm_reduction.proofs.WideParts.{have-append, have-get, valued-has}
 use Rattle.wasm_reduction.proofs.WordWidths.{IsBinary, binary-has}
 
@@ -72,7 +72,7 @@ operated-have op vs ws h e = narrow (is_from 0x6A 0x6C op) refl e
     narrow false is e = wider (is_from 0x7C 0x7E op) refl e
 
 module _ (globals : List (Value ℕ)) (have : ValuesHave HasNumber globals) where
-  constant-have : (i : Instr) (vs ws : List (Value ℕ)) → NumbersFit i → ValuesHave HasNumber vs → constant globals i vs ≡ Some ws → ValuesHave HasNumber ws
+  constant-have : (i : Instr) (vs ws : List (Value ℕ)) → InstrInRange i → ValuesHave HasNumber vs → constant globals i vs ≡ Some ws → ValuesHave HasNumber ws
   constant-have (Const32 n) vs ws f h e = let same : I32 n ∷ vs ≡ ws = cc in subst (ValuesHave HasNumber) same (f, h)
   constant-have (Const64 n) vs ws f h e = let same : I64 n ∷ vs ≡ ws = cc in subst (ValuesHave HasNumber) same (f, h)
   constant-have (RefNull kind) vs ws f h e = let r = map-of (null_of kind) (λ r. Ref r ∷ vs) ws e in subst (ValuesHave HasNumber) r.2 (tt, h)
@@ -82,25 +82,25 @@ module _ (globals : List (Value ℕ)) (have : ValuesHave HasNumber globals) wher
   constant-have (Num op) vs ws f h e = operated-have op vs ws h e
   constant-have _ vs ws f h e = absurd cc
 
-  evaluated-have : (is : List Instr) (vs ws : List (Value ℕ)) → All NumbersFit is → ValuesHave HasNumber vs → evaluated globals is vs ≡ Some ws → ValuesHave HasNumber ws
+  evaluated-have : (is : List Instr) (vs ws : List (Value ℕ)) → All InstrInRange is → ValuesHave HasNumber vs → evaluated globals is vs ≡ Some ws → ValuesHave HasNumber ws
   evaluated-have [] vs ws f h e = let same : vs ≡ ws = cc in subst (ValuesHave HasNumber) same h
   evaluated-have (i ∷ is) vs ws f h e =
       let us = some-of (constant globals i vs) (evaluated globals is) ws e in
-      evaluated-have is us.0 ws (All-tail NumbersFit i is f) (constant-have i vs us.0 (All-head NumbersFit i is f) h us.1) us.2
+      evaluated-have is us.0 ws (All-tail InstrInRange i is f) (constant-have i vs us.0 (All-head InstrInRange i is f) h us.1) us.2
 
   only-has : (vs : List (Value ℕ)) (v : Value ℕ) → ValuesHave HasNumber vs → only_value vs ≡ Some v → ValueHas HasNumber v
   only-has [] v h e = absurd cc
   only-has (u ∷ []) v h e = let same : u ≡ v = cc in subst (ValueHas HasNumber) same h.0
   only-has (u ∷ w ∷ vs) v h e = absurd cc
 
-  value-has : (seqs : List (List Instr)) (v : Value ℕ) → All (λ is. All NumbersFit is) seqs → option_and_then (λ is. option_and_then only_value (evaluated globals is [])) (only_sequence seqs) ≡ Some v → ValueHas HasNumber v
+  value-has : (seqs : List (List Instr)) (v : Value ℕ) → All (λ is. All InstrInRange is) seqs → option_and_then (λ is. option_and_then only_value (evaluated globals is [])) (only_sequence seqs) ≡ Some v → ValueHas HasNumber v
   value-has [] v f e = absurd cc
   value-has (is ∷ []) v f e =
       let vs = some-of (evaluated globals is []) only_value v e in
-      only-has vs.0 v (evaluated-have is [] vs.0 (All-head (λ is. All NumbersFit is) is [] f) tt vs.1) vs.2
+      only-has vs.0 v (evaluated-have is [] vs.0 (All-head (λ is. All InstrInRange is) is [] f) tt vs.1) vs.2
   value-has (is ∷ js ∷ rest) v f e = absurd cc
 
-pub globals-have : (done : List (Value ℕ)) (gs : List GlobalDef) (vs : List (Value ℕ)) → ValuesHave HasNumber done → AllByRecursion (λ g. ExprFits g.init) gs → globals_after done gs ≡ Some vs → ValuesHave HasNumber vs
+pub globals-have : (done : List (Value ℕ)) (gs : List GlobalDef) (vs : List (Value ℕ)) → ValuesHave HasNumber done → AllByRecursion (λ g. ExprInRange g.init) gs → globals_after done gs ≡ Some vs → ValuesHave HasNumber vs
 globals-have done [] vs d h e = let same : done ≡ vs = cc in subst (ValuesHave HasNumber) same d
 globals-have done (g ∷ gs) vs d h e =
     let v = some-of (value_of done g.init) (λ v. globals_after (done ++ v ∷ []) gs) vs e in

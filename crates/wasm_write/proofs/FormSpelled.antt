@@ -7,7 +7,7 @@ use Rattle.std.proofs.lemmas.Bool.{cases_lt}
 use Rattle.std.proofs.lemmas.Bool.Decides.{nat_tests}
 use Rattle.std.proofs.lemmas.Int.{ints}
 use Rattle.owi_base.specs.Leb.{unsigned_bytes, signed_bytes, low_bits, high_part}
-use Rattle.owi_base.specs.Forms.{any_byte, many}
+use Rattle.grammar_forms.specs.Forms.{any_byte, many}
 use Rattle.owi_base.proofs.DigitLaws.{unsigned_spells, signed_spells, signed_bytes_one, signed_bytes_more}
 use Rattle.wasm_ast.specs.Opcodes.{is_from}
 use Rattle.wasm_ast.specs.Shape.{IsShort, IsReference, FuncTypeHasShape}

@@ -5,7 +5,7 @@ use Rattle.std.specs.List.{flat_map, AllByRecursion as ByRecursion}
 use Rattle.std.proofs.lemmas.Bool.{eqb-true, ltb-true}
 use Rattle.std.proofs.lemmas.List.{drop_more, drop-drop, length-take-le, take_all}
 use Rattle.std.proofs.lemmas.Option.{slice_get-get_or}
-use Rattle.owi_base.specs.Forms.{◌>>=◌, checked}
+use Rattle.grammar_forms.specs.Forms.{◌>>=◌, checked}
 use Rattle.wasm_ast.specs.Sections.{names_data}
 use Rattle.wasm_ast.specs.Numbering.{after, names, named_by, AreEnds}
 use Rattle.wasm_ast.specs.Shape.{InstrHasShape, ExprHasShape}

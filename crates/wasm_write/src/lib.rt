@@ -12,7 +12,7 @@ ghost use Rattle.wasm_write.specs.Modules.{shortest, sections, first_long};
 mod expressions;
 mod instructions;
 pub mod laws;
-mod parts;
+mod section_entries;
 mod sections;
 mod types;
 mod values;

@@ -3,7 +3,6 @@ use Rattle.std.proofs.Common.{◌≡◌, ◌≢◌, ℕ, ◌+◌, ◌<◌, ◌�
 use Rattle.std.specs.Prelude.{nat_lt, ◌==◌, ◌&&◌, ◌||◌}
 use Rattle.std.proofs.lemmas.Bool.{eqb-false}
 use Rattle.std.proofs.lemmas.Bool.Decides.{nat_tests}
-use Rattle.owi_base.proofs.UnsignedLaws.{chosen}
 use Rattle.wasm_ast.specs.Numbering.{named_by}
 use Rattle.wasm_ast.specs.Opcodes.{is_from, is_load, is_store, is_numeric}
 use Rattle.wasm_ast.specs.Shape.{IsReference, InstrHasShape}
@@ -13,26 +12,27 @@ use Rattle.wasm_binary.specs.Faults.{Fault, byte}
 use Rattle.wasm_binary.specs.Values.{u32, s32, s64, tag}
 use Rattle.wasm_binary.specs.Types.{below, val_type}
 use Rattle.wasm_binary.specs.Instructions.{Opcode, Around, is_opcode, one_index, two_indices, memory_argument, index_and_zero, zero_byte, zero_bytes, after_FC, branch_table, select_typed, null_of, constant_32, constant_64, plain}
-use Rattle.wasm_read.proofs.ShapeOfLists.{Says, gives_says, then_says, any_says, checked_says, when_says, vec_says, ref_type_says, Any, AllShort}
+use Rattle.wasm_binary.proofs.ShapeOfLists.{SpellsOnly, gives_only, then_only, any_only, checked_only, when_only, vec_only, ref_type_only, Any, AllShort}
+use Rattle.owi_base.proofs.Choices.{chosen, both_left}
 
 -- it names no sequence and has its shape
 abbrev pub IsPlain : Instr → Type 0
 IsPlain instr = (named_by instr ≡ []) × InstrHasShape instr
 
-one_index_says : (instr : ℕ → Instr) → ((x : ℕ) → IsPlain (instr x)) → Says (one_index instr) IsPlain
-one_index_says instr p = then_says Any IsPlain (any_says u32) (λ x any. gives_says IsPlain _ (p x))
+one_index_only : (instr : ℕ → Instr) → ((x : ℕ) → IsPlain (instr x)) → SpellsOnly (one_index instr) IsPlain
+one_index_only instr p = then_only Any IsPlain (any_only u32) (λ x any. gives_only IsPlain _ (p x))
 
-two_indices_says : (instr : ℕ → ℕ → Instr) → ((x y : ℕ) → IsPlain (instr x y)) → Says (two_indices instr) IsPlain
-two_indices_says instr p = then_says Any IsPlain (any_says u32) (λ x any. then_says Any IsPlain (any_says u32) (λ y also. gives_says IsPlain _ (p x y)))
+two_indices_only : (instr : ℕ → ℕ → Instr) → ((x y : ℕ) → IsPlain (instr x y)) → SpellsOnly (two_indices instr) IsPlain
+two_indices_only instr p = then_only Any IsPlain (any_only u32) (λ x any. then_only Any IsPlain (any_only u32) (λ y also. gives_only IsPlain _ (p x y)))
 
-index_and_zero_says : (instr : ℕ → Instr) → ((x : ℕ) → IsPlain (instr x)) → Says (index_and_zero instr) IsPlain
-index_and_zero_says instr p = then_says Any IsPlain (any_says u32) (λ x any. then_says Any IsPlain (any_says (tag 0)) (λ y also. gives_says IsPlain _ (p x)))
+index_and_zero_only : (instr : ℕ → Instr) → ((x : ℕ) → IsPlain (instr x)) → SpellsOnly (index_and_zero instr) IsPlain
+index_and_zero_only instr p = then_only Any IsPlain (any_only u32) (λ x any. then_only Any IsPlain (any_only (tag 0)) (λ y also. gives_only IsPlain _ (p x)))
 
-zero_byte_says : (instr : Instr) → IsPlain instr → Says (zero_byte instr) IsPlain
-zero_byte_says instr p = then_says Any IsPlain (any_says (tag 0)) (λ y also. gives_says IsPlain _ p)
+zero_byte_only : (instr : Instr) → IsPlain instr → SpellsOnly (zero_byte instr) IsPlain
+zero_byte_only instr p = then_only Any IsPlain (any_only (tag 0)) (λ y also. gives_only IsPlain _ p)
 
-zero_bytes_says : (instr : Instr) → IsPlain instr → Says (zero_bytes instr) IsPlain
-zero_bytes_says instr p = then_says Any IsPlain (any_says (tag 0)) (λ x any. then_says Any IsPlain (any_says (tag 0)) (λ y also. gives_says IsPlain _ p))
+zero_bytes_only : (instr : Instr) → IsPlain instr → SpellsOnly (zero_bytes instr) IsPlain
+zero_bytes_only instr p = then_only Any IsPlain (any_only (tag 0)) (λ x any. then_only Any IsPlain (any_only (tag 0)) (λ y also. gives_only IsPlain _ p))
 
 exponent_ok : (n y : ℕ) → below 32 n ≡ Ok y → y < 32
 exponent_ok n y e =
@@ -41,41 +41,41 @@ exponent_ok n y e =
       | inr other ↦ let both = other.1 in absurd cc
     ]
 
-memory_argument_says : (instr : ℕ → ℕ → Instr) → ((x y : ℕ) → x < 32 → IsPlain (instr x y)) → Says (memory_argument instr) IsPlain
-memory_argument_says instr p =
-    then_says (λ align. align < 32) IsPlain (checked_says u32 (below 32) Any (λ align. align < 32) (any_says u32) (λ n y any e. exponent_ok n y e)) (λ align small.
-    then_says Any IsPlain (any_says u32) (λ offset any. gives_says IsPlain _ (p align offset small)))
+memory_argument_only : (instr : ℕ → ℕ → Instr) → ((x y : ℕ) → x < 32 → IsPlain (instr x y)) → SpellsOnly (memory_argument instr) IsPlain
+memory_argument_only instr p =
+    then_only (λ align. align < 32) IsPlain (checked_only u32 (below 32) Any (λ align. align < 32) (any_only u32) (λ n y any e. exponent_ok n y e)) (λ align small.
+    then_only Any IsPlain (any_only u32) (λ offset any. gives_only IsPlain _ (p align offset small)))
 
-branch_table_says : Says branch_table IsPlain
-branch_table_says =
-    then_says (AllShort Any) IsPlain (vec_says Any u32 (any_says u32)) (λ labels are.
-    then_says Any IsPlain (any_says u32) (λ last any. gives_says IsPlain _ (refl, are.1)))
+branch_table_only : SpellsOnly branch_table IsPlain
+branch_table_only =
+    then_only (AllShort Any) IsPlain (vec_only Any u32 (any_only u32)) (λ labels are.
+    then_only Any IsPlain (any_only u32) (λ last any. gives_only IsPlain _ (refl, are.1)))
 
-select_typed_says : Says select_typed IsPlain
-select_typed_says = then_says (AllShort Any) IsPlain (vec_says Any val_type (any_says val_type)) (λ kinds are. gives_says IsPlain _ (refl, are.1))
+select_typed_only : SpellsOnly select_typed IsPlain
+select_typed_only = then_only (AllShort Any) IsPlain (vec_only Any val_type (any_only val_type)) (λ kinds are. gives_only IsPlain _ (refl, are.1))
 
-null_of_says : Says null_of IsPlain
-null_of_says = then_says IsReference IsPlain ref_type_says (λ kind is. gives_says IsPlain _ (refl, is))
+null_of_only : SpellsOnly null_of IsPlain
+null_of_only = then_only IsReference IsPlain ref_type_only (λ kind is. gives_only IsPlain _ (refl, is))
 
-constant_32_says : Says constant_32 IsPlain
-constant_32_says = then_says Any IsPlain (any_says s32) (λ z any. gives_says IsPlain _ (refl, tt))
+constant_32_only : SpellsOnly constant_32 IsPlain
+constant_32_only = then_only Any IsPlain (any_only s32) (λ z any. gives_only IsPlain _ (refl, tt))
 
-constant_64_says : Says constant_64 IsPlain
-constant_64_says = then_says Any IsPlain (any_says s64) (λ z any. gives_says IsPlain _ (refl, tt))
+constant_64_only : SpellsOnly constant_64 IsPlain
+constant_64_only = then_only Any IsPlain (any_only s64) (λ z any. gives_only IsPlain _ (refl, tt))
 
-after_FC_says : (n : ℕ) → Says (after_FC n) IsPlain
+after_FC_only : (n : ℕ) → SpellsOnly (after_FC n) IsPlain
 unfolding after_FC
-after_FC_says n =
-    when_says IsPlain (n == 8) _ _ (λ t. index_and_zero_says MemoryInit (λ x. (refl, tt))) (λ n8.
-    when_says IsPlain (n == 9) _ _ (λ t. one_index_says DataDrop (λ x. (refl, tt))) (λ n9.
-    when_says IsPlain (n == 10) _ _ (λ t. zero_bytes_says MemoryCopy (refl, tt)) (λ n10.
-    when_says IsPlain (n == 11) _ _ (λ t. zero_byte_says MemoryFill (refl, tt)) (λ n11.
-    when_says IsPlain (n == 12) _ _ (λ t. two_indices_says TableInit (λ x y. (refl, tt))) (λ n12.
-    when_says IsPlain (n == 13) _ _ (λ t. one_index_says ElemDrop (λ x. (refl, tt))) (λ n13.
-    when_says IsPlain (n == 14) _ _ (λ t. two_indices_says TableCopy (λ x y. (refl, tt))) (λ n14.
-    when_says IsPlain (n == 15) _ _ (λ t. one_index_says TableGrow (λ x. (refl, tt))) (λ n15.
-    when_says IsPlain (n == 16) _ _ (λ t. one_index_says TableSize (λ x. (refl, tt))) (λ n16.
-    one_index_says TableFill (λ x. (refl, tt)))))))))))
+after_FC_only n =
+    when_only IsPlain (n == 8) _ _ (λ t. index_and_zero_only MemoryInit (λ x. (refl, tt))) (λ n8.
+    when_only IsPlain (n == 9) _ _ (λ t. one_index_only DataDrop (λ x. (refl, tt))) (λ n9.
+    when_only IsPlain (n == 10) _ _ (λ t. zero_bytes_only MemoryCopy (refl, tt)) (λ n10.
+    when_only IsPlain (n == 11) _ _ (λ t. zero_byte_only MemoryFill (refl, tt)) (λ n11.
+    when_only IsPlain (n == 12) _ _ (λ t. two_indices_only TableInit (λ x y. (refl, tt))) (λ n12.
+    when_only IsPlain (n == 13) _ _ (λ t. one_index_only ElemDrop (λ x. (refl, tt))) (λ n13.
+    when_only IsPlain (n == 14) _ _ (λ t. two_indices_only TableCopy (λ x y. (refl, tt))) (λ n14.
+    when_only IsPlain (n == 15) _ _ (λ t. one_index_only TableGrow (λ x. (refl, tt))) (λ n15.
+    when_only IsPlain (n == 16) _ _ (λ t. one_index_only TableSize (λ x. (refl, tt))) (λ n16.
+    one_index_only TableFill (λ x. (refl, tt)))))))))))
 
 -- ---- what is left after all other opcodes is numeric
 
@@ -110,10 +110,6 @@ pub record IsNone (b : ℕ) : Type 0 where
 up : (b k next : ℕ) → next ≡ k + 1 → (b == k) ≡ false → k ≤ b → next ≤ b
 up b k next is none le = let ne : b ≢ k = eqb-false b k none in omega arith
 
-and_left : (a b : Bool) → (a && b) ≡ true → a ≡ true
-and_left true b e = refl
-and_left false b e = absurd cc
-
 numeric_left : (around : Around) (b : ℕ) → is_opcode around b ≡ true → IsNone b → is_numeric b ≡ true
 numeric_left around b e none =
     elim (or_is _ (is_from 0xD0 0xD2 b) e) [
@@ -137,7 +133,7 @@ numeric_left around b e none =
                         let le : 0x0C ≤ b = omega arith in absurd (omega (arith, none.jumps le, r.1))
                     | inl e8 ↦ elim (or_is (is_from 0x00 0x04 b) (b == 0x05 && around.else_may_follow) e8) [
                       | inl low ↦ let r = from_is 0x00 0x04 b low in absurd (omega (arith, none.low, r.1))
-                      | inr last ↦ absurd (true_is_not_false (b == 0x05) (and_left (b == 0x05) around.else_may_follow last) none.last)
+                      | inr last ↦ absurd (true_is_not_false (b == 0x05) (both_left (b == 0x05) around.else_may_follow last) none.last)
                     ]
                   ]
                 ]
@@ -161,39 +157,39 @@ is_known : (around : Around) (b : ℕ) → (is_opcode around b ≡ true) ⊎ (b 
 is_known around b (inl is) none = is
 is_known around b (inr is) none = absurd (eqb-false b 0xFC none is)
 
-pub plain_says : (around : Around) (op : Opcode) → IsPlainOpcode around op → Says (plain op) IsPlain
+pub plain_only : (around : Around) (op : Opcode) → IsPlainOpcode around op → SpellsOnly (plain op) IsPlain
 unfolding plain
-plain_says around op is =
+plain_only around op is =
     let b = op.first in
-    when_says IsPlain (b == 0x00) _ _ (λ t. gives_says IsPlain _ (refl, tt)) (λ n00.
-    when_says IsPlain (b == 0x01) _ _ (λ t. gives_says IsPlain _ (refl, tt)) (λ n01.
-    when_says IsPlain (b == 0x0C) _ _ (λ t. one_index_says Br (λ x. (refl, tt))) (λ n0C.
-    when_says IsPlain (b == 0x0D) _ _ (λ t. one_index_says BrIf (λ x. (refl, tt))) (λ n0D.
-    when_says IsPlain (b == 0x0E) _ _ (λ t. branch_table_says) (λ n0E.
-    when_says IsPlain (b == 0x0F) _ _ (λ t. gives_says IsPlain _ (refl, tt)) (λ n0F.
-    when_says IsPlain (b == 0x10) _ _ (λ t. one_index_says Call (λ x. (refl, tt))) (λ n10.
-    when_says IsPlain (b == 0x11) _ _ (λ t. two_indices_says CallIndirect (λ x y. (refl, tt))) (λ n11.
-    when_says IsPlain (b == 0x1A) _ _ (λ t. gives_says IsPlain _ (refl, tt)) (λ n1A.
-    when_says IsPlain (b == 0x1B) _ _ (λ t. gives_says IsPlain _ (refl, tt)) (λ n1B.
-    when_says IsPlain (b == 0x1C) _ _ (λ t. select_typed_says) (λ n1C.
-    when_says IsPlain (b == 0x20) _ _ (λ t. one_index_says LocalGet (λ x. (refl, tt))) (λ n20.
-    when_says IsPlain (b == 0x21) _ _ (λ t. one_index_says LocalSet (λ x. (refl, tt))) (λ n21.
-    when_says IsPlain (b == 0x22) _ _ (λ t. one_index_says LocalTee (λ x. (refl, tt))) (λ n22.
-    when_says IsPlain (b == 0x23) _ _ (λ t. one_index_says GlobalGet (λ x. (refl, tt))) (λ n23.
-    when_says IsPlain (b == 0x24) _ _ (λ t. one_index_says GlobalSet (λ x. (refl, tt))) (λ n24.
-    when_says IsPlain (b == 0x25) _ _ (λ t. one_index_says TableGet (λ x. (refl, tt))) (λ n25.
-    when_says IsPlain (b == 0x26) _ _ (λ t. one_index_says TableSet (λ x. (refl, tt))) (λ n26.
-    when_says IsPlain (is_load b) _ _ (λ t. memory_argument_says (Load b) (λ x y small. (refl, (t, small)))) (λ load.
-    when_says IsPlain (is_store b) _ _ (λ t. memory_argument_says (Store b) (λ x y small. (refl, (t, small)))) (λ store.
-    when_says IsPlain (b == 0x3F) _ _ (λ t. zero_byte_says MemorySize (refl, tt)) (λ n3F.
-    when_says IsPlain (b == 0x40) _ _ (λ t. zero_byte_says MemoryGrow (refl, tt)) (λ n40.
-    when_says IsPlain (b == 0x41) _ _ (λ t. constant_32_says) (λ n41.
-    when_says IsPlain (b == 0x42) _ _ (λ t. constant_64_says) (λ n42.
-    when_says IsPlain (b == 0xD0) _ _ (λ t. null_of_says) (λ nD0.
-    when_says IsPlain (b == 0xD1) _ _ (λ t. gives_says IsPlain _ (refl, tt)) (λ nD1.
-    when_says IsPlain (b == 0xD2) _ _ (λ t. one_index_says RefFunc (λ x. (refl, tt))) (λ nD2.
-    when_says IsPlain (b == 0xFC) _ _ (λ t. after_FC_says op.second) (λ nFC.
-    gives_says IsPlain _ (
+    when_only IsPlain (b == 0x00) _ _ (λ t. gives_only IsPlain _ (refl, tt)) (λ n00.
+    when_only IsPlain (b == 0x01) _ _ (λ t. gives_only IsPlain _ (refl, tt)) (λ n01.
+    when_only IsPlain (b == 0x0C) _ _ (λ t. one_index_only Br (λ x. (refl, tt))) (λ n0C.
+    when_only IsPlain (b == 0x0D) _ _ (λ t. one_index_only BrIf (λ x. (refl, tt))) (λ n0D.
+    when_only IsPlain (b == 0x0E) _ _ (λ t. branch_table_only) (λ n0E.
+    when_only IsPlain (b == 0x0F) _ _ (λ t. gives_only IsPlain _ (refl, tt)) (λ n0F.
+    when_only IsPlain (b == 0x10) _ _ (λ t. one_index_only Call (λ x. (refl, tt))) (λ n10.
+    when_only IsPlain (b == 0x11) _ _ (λ t. two_indices_only CallIndirect (λ x y. (refl, tt))) (λ n11.
+    when_only IsPlain (b == 0x1A) _ _ (λ t. gives_only IsPlain _ (refl, tt)) (λ n1A.
+    when_only IsPlain (b == 0x1B) _ _ (λ t. gives_only IsPlain _ (refl, tt)) (λ n1B.
+    when_only IsPlain (b == 0x1C) _ _ (λ t. select_typed_only) (λ n1C.
+    when_only IsPlain (b == 0x20) _ _ (λ t. one_index_only LocalGet (λ x. (refl, tt))) (λ n20.
+    when_only IsPlain (b == 0x21) _ _ (λ t. one_index_only LocalSet (λ x. (refl, tt))) (λ n21.
+    when_only IsPlain (b == 0x22) _ _ (λ t. one_index_only LocalTee (λ x. (refl, tt))) (λ n22.
+    when_only IsPlain (b == 0x23) _ _ (λ t. one_index_only GlobalGet (λ x. (refl, tt))) (λ n23.
+    when_only IsPlain (b == 0x24) _ _ (λ t. one_index_only GlobalSet (λ x. (refl, tt))) (λ n24.
+    when_only IsPlain (b == 0x25) _ _ (λ t. one_index_only TableGet (λ x. (refl, tt))) (λ n25.
+    when_only IsPlain (b == 0x26) _ _ (λ t. one_index_only TableSet (λ x. (refl, tt))) (λ n26.
+    when_only IsPlain (is_load b) _ _ (λ t. memory_argument_only (Load b) (λ x y small. (refl, (t, small)))) (λ load.
+    when_only IsPlain (is_store b) _ _ (λ t. memory_argument_only (Store b) (λ x y small. (refl, (t, small)))) (λ store.
+    when_only IsPlain (b == 0x3F) _ _ (λ t. zero_byte_only MemorySize (refl, tt)) (λ n3F.
+    when_only IsPlain (b == 0x40) _ _ (λ t. zero_byte_only MemoryGrow (refl, tt)) (λ n40.
+    when_only IsPlain (b == 0x41) _ _ (λ t. constant_32_only) (λ n41.
+    when_only IsPlain (b == 0x42) _ _ (λ t. constant_64_only) (λ n42.
+    when_only IsPlain (b == 0xD0) _ _ (λ t. null_of_only) (λ nD0.
+    when_only IsPlain (b == 0xD1) _ _ (λ t. gives_only IsPlain _ (refl, tt)) (λ nD1.
+    when_only IsPlain (b == 0xD2) _ _ (λ t. one_index_only RefFunc (λ x. (refl, tt))) (λ nD2.
+    when_only IsPlain (b == 0xFC) _ _ (λ t. after_FC_only op.second) (λ nFC.
+    gives_only IsPlain _ (
       refl,
       numeric_left around b (is_known around b is.known nFC) (record {
         low = up b 0x04 0x05 refl is.choice (up b 0x03 0x04 refl is.loop (up b 0x02 0x03 refl is.block (up b 0x01 0x02 refl n01 (up b 0x00 0x01 refl n00 (omega arith)))));

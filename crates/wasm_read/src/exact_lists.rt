@@ -9,7 +9,7 @@ const FEW: usize = 64;
 
 /// The list of these items, without memory beyond them. A few are moved, so that the block in which they stood serves for
 /// what is read next: shrunk, it would leave a hole too small for most. More of them stay where they are.
-pub(crate) fn fitted<T: Drop>(alloc: Global, items: Vec<T>) -> Result<List<T>, AllocError>
+pub(crate) fn exact_list<T: Drop>(alloc: Global, items: Vec<T>) -> Result<List<T>, AllocError>
     ensures { IfOk result (λ list. list ≡ items.items) }
 {
     let mut items = items;

@@ -3,9 +3,8 @@ use Rattle.std.proofs.Common.{◌≡◌, ◌≢◌, ℕ, suc, ◌<◌, inl, inr,
 use Rattle.std.specs.Prelude.{◌==◌, nat_lt, is_some}
 use Rattle.std.specs.List.{list_all, AllByRecursion as ByRecursion}
 use Rattle.std.proofs.lemmas.Bool.{cases_eq, ne_eqb}
-use Rattle.owi_base.proofs.SignedReading.{passed}
 use Rattle.owi_base.specs.Leb.{unsigned_bytes}
-use Rattle.owi_base.specs.Forms.{◌>>=◌, gives, when◌form◌else◌}
+use Rattle.grammar_forms.specs.Forms.{◌>>=◌, gives, when◌form◌else◌}
 use Rattle.wasm_ast.specs.Shape.{IsReference, ExprHasShape, KindHasShape, ImportHasShape, ModeHasShape, ElemHasShape, SegmentHasShape, IsShort}
 use Rattle.wasm_ast.specs.declared.types.ValType.{ValType}
 use Rattle.wasm_ast.specs.declared.types.ValType.TheVariants.{I32, I64, FuncRef, ExternRef}
@@ -25,14 +24,15 @@ use Rattle.wasm_ast.specs.declared.modules.Elem.{Elem}
 use Rattle.wasm_ast.specs.declared.modules.Segment.{Segment}
 use Rattle.wasm_binary.specs.Values.{vec}
 use Rattle.wasm_binary.specs.Types.{below, one_of}
-use Rattle.wasm_binary.specs.Parts.{constant, import_kind, import, global, space_of, export, flag_below, active_on, active, elem_mode, elem_kind, func_item, elem, data_mode, segment}
+use Rattle.wasm_binary.specs.SectionEntries.{constant, import_kind, import, global, space_of, export, flag_below, active_on, active, elem_mode, elem_kind, func_item, elem, data_mode, segment}
 use Rattle.wasm_write.specs.Values.{vec_bytes, sized}
 use Rattle.wasm_write.specs.Types.{type_byte, limits_bytes, table_type_bytes, global_type_bytes}
 use Rattle.wasm_write.specs.Instructions.{expr_bytes}
-use Rattle.wasm_write.specs.Parts.{import_kind_bytes, import_bytes, global_bytes, export_bytes, single_func, func_of, is_func_ref, has_indices, index_bytes, func_item_bytes, elem_front, elem_bytes, segment_front, segment_bytes}
+use Rattle.wasm_write.specs.SectionEntries.{import_kind_bytes, import_bytes, global_bytes, export_bytes, single_func, func_of, is_func_ref, has_indices, index_bytes, func_item_bytes, elem_front, elem_bytes, segment_front, segment_bytes}
 use Rattle.wasm_ast.specs.Ranges.{IsU32, ExprInRange, KindInRange, ImportInRange, ExportInRange, ModeInRange, ElemInRange, SegmentInRange}
 use Rattle.wasm_write.proofs.FormSpelled.{each_of, both_true, u32_spelled, vec_spelled, sized_spelled, name_spelled, ref_type_spelled, limits_spelled, table_type_spelled, global_type_spelled}
 use Rattle.wasm_write.proofs.SequencesSpelled.{expr_spelled}
+use Rattle.owi_base.proofs.Choices.{passed}
 
 -- outside of bodies no data count section is needed
 pub constant_spelled : (e : Expr) → ExprHasShape e → ExprInRange e → constant.Spells e (expr_bytes e)

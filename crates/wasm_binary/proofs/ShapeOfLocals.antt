@@ -5,8 +5,7 @@ use Rattle.std.proofs.lemmas.List.Recursion.{is_sum_by}
 use Rattle.std.proofs.lemmas.List.Elements.{All-nil, All-cons, All-head, All-tail}
 use Rattle.std.proofs.lemmas.Bool.{eqb-true, eqb-false}
 use Rattle.std.proofs.lemmas.Bool.Decides.{nat_tests}
-use Rattle.owi_base.specs.Forms.{within}
-use Rattle.owi_base.proofs.UnsignedLaws.{chosen}
+use Rattle.grammar_forms.specs.Forms.{within}
 use Rattle.wasm_ast.specs.Shape.{LocalsHaveShape, ExprHasShape}
 use Rattle.wasm_ast.specs.declared.types.ValType.{ValType}
 use Rattle.wasm_ast.specs.declared.types.ValType.TheVariants.{I32, I64, FuncRef, ExternRef}
@@ -15,8 +14,9 @@ use Rattle.wasm_binary.specs.Faults.{Fault, size, locals}
 use Rattle.wasm_binary.specs.Values.{Grammar, u32}
 use Rattle.wasm_binary.specs.Types.{val_type}
 use Rattle.wasm_binary.specs.Locals.{few, group, groups, same_kind, with_front, joined, Code, code_contents, code}
-use Rattle.wasm_read.proofs.ShapeOfLists.{Says, gives_says, then_says, any_says, checked_says, Any}
-use Rattle.wasm_read.proofs.ShapeOfExpressions.{expression_says}
+use Rattle.wasm_binary.proofs.ShapeOfLists.{SpellsOnly, gives_only, then_only, any_only, checked_only, Any}
+use Rattle.wasm_binary.proofs.ShapeOfExpressions.{expression_only}
+use Rattle.owi_base.proofs.Choices.{chosen}
 
 -- how many locals there are
 abbrev pub total : List Group → ℕ
@@ -35,17 +35,17 @@ few_ok sum n y e =
       | inr other ↦ let both = other.1 in absurd cc
     ]
 
-group_says : (sum : ℕ) → Says (group sum) (λ g. sum + g.count ≤ 50000)
-group_says sum =
-    then_says (λ n. sum + n ≤ 50000) (λ g. sum + g.count ≤ 50000) (checked_says u32 (few sum) Any (λ n. sum + n ≤ 50000) (any_says u32) (λ n y any e. few_ok sum n y e)) (λ n le.
-    then_says Any (λ g. sum + g.count ≤ 50000) (any_says val_type) (λ kind any. gives_says (λ g. sum + g.count ≤ 50000) _ le))
+group_only : (sum : ℕ) → SpellsOnly (group sum) (λ g. sum + g.count ≤ 50000)
+group_only sum =
+    then_only (λ n. sum + n ≤ 50000) (λ g. sum + g.count ≤ 50000) (checked_only u32 (few sum) Any (λ n. sum + n ≤ 50000) (any_only u32) (λ n y any e. few_ok sum n y e)) (λ n le.
+    then_only Any (λ g. sum + g.count ≤ 50000) (any_only val_type) (λ kind any. gives_only (λ g. sum + g.count ≤ 50000) _ le))
 
-groups_says : (left sum : ℕ) → sum ≤ 50000 → Says (groups left sum) (λ gs. sum + total gs ≤ 50000)
-groups_says zero sum le = gives_says (λ gs. sum + total gs ≤ 50000) [] (omega arith)
-groups_says (suc left) sum le =
-    then_says (λ g. sum + g.count ≤ 50000) (λ gs. sum + total gs ≤ 50000) (group_says sum) (λ g less.
-    then_says (λ gs. sum + g.count + total gs ≤ 50000) (λ gs. sum + total gs ≤ 50000) (groups_says left (sum + g.count) less) (λ others more.
-    gives_says (λ gs. sum + total gs ≤ 50000) (g ∷ others) (omega arith)))
+groups_only : (left sum : ℕ) → sum ≤ 50000 → SpellsOnly (groups left sum) (λ gs. sum + total gs ≤ 50000)
+groups_only zero sum le = gives_only (λ gs. sum + total gs ≤ 50000) [] (omega arith)
+groups_only (suc left) sum le =
+    then_only (λ g. sum + g.count ≤ 50000) (λ gs. sum + total gs ≤ 50000) (group_only sum) (λ g less.
+    then_only (λ gs. sum + g.count + total gs ≤ 50000) (λ gs. sum + total gs ≤ 50000) (groups_only left (sum + g.count) less) (λ others more.
+    gives_only (λ gs. sum + total gs ≤ 50000) (g ∷ others) (omega arith)))
 
 -- ---- joined
 
@@ -133,15 +133,15 @@ pub record CodeHasShape (c : Code) : Type 0 where
   pub locals : LocalsHaveShape c.locals
   pub body : ExprHasShape c.body
 
-pub within_says : {A : Type 0} (P : A → Type 0) (len : ℕ) (f : Grammar A) → Says f P → Says (within size len f) P
-within_says P len f p = record { each = λ x text few s. p.each x text few s.0 }
+pub within_only : {A : Type 0} (P : A → Type 0) (len : ℕ) (f : Grammar A) → SpellsOnly f P → SpellsOnly (within size len f) P
+within_only P len f p = record { each = λ x text few s. p.each x text few s.0 }
 
-code_contents_says : (b : Bool) → Says (code_contents b) CodeHasShape
-code_contents_says b =
-    then_says Any CodeHasShape (any_says u32) (λ n any.
-    then_says (λ gs. 0 + total gs ≤ 50000) CodeHasShape (groups_says n 0 (omega arith)) (λ gs le.
-    then_says ExprHasShape CodeHasShape (expression_says b) (λ body is.
-    gives_says CodeHasShape _ (record { locals = locals_shape gs (omega arith); body = is }))))
+code_contents_only : (b : Bool) → SpellsOnly (code_contents b) CodeHasShape
+code_contents_only b =
+    then_only Any CodeHasShape (any_only u32) (λ n any.
+    then_only (λ gs. 0 + total gs ≤ 50000) CodeHasShape (groups_only n 0 (omega arith)) (λ gs le.
+    then_only ExprHasShape CodeHasShape (expression_only b) (λ body is.
+    gives_only CodeHasShape _ (record { locals = locals_shape gs (omega arith); body = is }))))
 
-pub code_says : (b : Bool) → Says (code b) CodeHasShape
-code_says b = then_says Any CodeHasShape (any_says u32) (λ len any. within_says CodeHasShape len (code_contents b) (code_contents_says b))
+pub code_only : (b : Bool) → SpellsOnly (code b) CodeHasShape
+code_only b = then_only Any CodeHasShape (any_only u32) (λ len any. within_only CodeHasShape len (code_contents b) (code_contents_only b))

@@ -1,4 +1,4 @@
--- Reading, spelling and trouble of forms belong together, one combinator of specs/Forms.antt at a time.
+-- Reading, spelling and trouble of forms belong together, one way of putting forms together (specs/Forms) at a time.
 use Rattle.std.proofs.Common.{◌≡◌, ◌≢◌, ℕ, zero, suc, ◌+◌, ◌-◌, ◌≤◌, ◌<◌, ◌⊎◌, inl, inr, ℤ, Bool, true, false, List, [], ◌∷◌, ◌++◌, length, take, drop, Result, Ok, Err, refl, sym, ap, subst, ◌∙◌, append_assoc, append-nil, arith, length-append, length-drop}
 use Rattle.std.specs.Prelude.{◌==◌}
 use Rattle.std.proofs.lemmas.Bool.{le-leb, lt-leb, cases_lt, eqb-true, eqb-false, eq-eqb, ne_eqb}
@@ -6,28 +6,12 @@ use Rattle.std.proofs.lemmas.List.{drop-drop, drop_at, drop-take, take-append-dr
 use Rattle.std.proofs.Math.Seq.{take-append_seam}
 use Rattle.owi_base.specs.declared.leb.LebBad.{LebBad}
 use Rattle.owi_base.specs.LebReading.{read_unsigned, read_signed}
-use Rattle.owi_base.specs.Forms.{Window, Between, Form, gives, read_on, ◌>>=◌, many, first_of_rest, any_byte, said, told, unsigned, signed, located, checked, measured, by_first, up_to, left_over, ends_at, within, when◌form◌else◌, no_form, nested}
-use Rattle.owi_base.proofs.UnsignedLaws.{chosen}
+use Rattle.grammar_forms.specs.Forms.{Window, Between, Form, gives, read_on, ◌>>=◌, many, first_of_rest, any_byte, said, told, unsigned, signed, located, checked, measured, by_first, up_to, left_over, ends_at, within, when◌form◌else◌, no_form, nested}
 use Rattle.owi_base.proofs.UnsignedLaws as unsigned_laws
-use Rattle.owi_base.proofs.SignedReading.{taken, passed}
 use Rattle.owi_base.proofs.SignedReading as signed_laws
-
--- ---- what is proved of a form
-
--- fewer than n bytes of the window are left from the place on
-abbrev pub IsBelow : {E : Type 0} → ℕ → Window E → ℕ → Type 0
-IsBelow n w at = length w.bytes - at < n
-
--- at places with fewer than n bytes left: what is read is spelled, what is spelled is read, a refusal names the trouble, and a trouble is refused
-pub record IsLawful {E A : Type 0} (n : ℕ) (f : Form E A) : Type 0 where
-  pub sound : (w : Window E) (at : ℕ) → IsBelow n w at → (x : A) (next : ℕ) → f.read w at ≡ Ok (x, next) → Between w.bytes at next (f.Spells x)
-  pub complete : (w : Window E) (at : ℕ) → IsBelow n w at → (x : A) (text rest : List ℕ) → drop at w.bytes ≡ text ++ rest → f.Spells x text → f.read w at ≡ Ok (x, at + length text)
-  pub named : (w : Window E) (at : ℕ) → IsBelow n w at → (bad : E) → f.read w at ≡ Err bad → f.Trouble w at bad
-  pub found : (w : Window E) (at : ℕ) → IsBelow n w at → (bad : E) → f.Trouble w at bad → f.read w at ≡ Err bad
-
--- each spelling has a byte
-abbrev pub HasBytes : {E A : Type 0} → Form E A → Type 0
-HasBytes {E} {A} f = (x : A) (text : List ℕ) → f.Spells x text → 0 < length text
+use Rattle.grammar_forms.specs.Laws.{IsBelow, IsLawful, HasBytes, IsIn}
+use Rattle.owi_base.proofs.Results.{pair_is, ok_not_err, err_not_ok, err_same}
+use Rattle.owi_base.proofs.Choices.{chosen, taken, passed}
 
 -- ---- steps
 
@@ -38,20 +22,6 @@ read_on_ok (Err bad) f y e = absurd cc
 pub read_on_err : {E A B : Type 0} (r : Result (A × ℕ) E) (f : A → ℕ → Result (B × ℕ) E) (bad : E) → read_on r f ≡ Err bad → (r ≡ Err bad) ⊎ ((x : A) × (next : ℕ) × (r ≡ Ok (x, next)) × (f x next ≡ Err bad))
 read_on_err (Ok x) f bad e = inr (x.0, x.1, refl, e)
 read_on_err {E} {A} (Err other) f bad e = inl (let same : other ≡ bad = cc in ap (λ (d : E). let r : Result (A × ℕ) E = Err d in r) same)
-
-pub pair_is : {E A : Type 0} (x y : A) (m n : ℕ) → (let r : Result (A × ℕ) E = Ok (x, m) in r) ≡ Ok (y, n) → (x ≡ y) × (m ≡ n)
-pair_is {E} {A} x y m n e =
-    let same : (let p : A × ℕ = (x, m) in p) ≡ (y, n) = cc in
-    (ap (λ (p : A × ℕ). p.0) same, ap (λ (p : A × ℕ). p.1) same)
-
-pub ok_not_err : {E A : Type 0} (x : A) (bad : E) → (let r : Result A E = Ok x in r) ≡ Err bad → ⊥
-ok_not_err x bad e = cc
-
-pub err_not_ok : {E A : Type 0} (x : A) (bad : E) → (let r : Result A E = Err bad in r) ≡ Ok x → ⊥
-err_not_ok x bad e = cc
-
-pub err_same : {E A : Type 0} (bad other : E) → (let r : Result A E = Err bad in r) ≡ Err other → bad ≡ other
-err_same bad other e = cc
 
 -- ---- places
 
@@ -416,11 +386,6 @@ signed_has_bytes leb width z [] s = absurd s
 signed_has_bytes leb width z (b ∷ text) s = omega arith
 
 -- ---- forms inside forms of the same kind
-
--- each spelling and each trouble of the first form is one of the second
-pub record IsIn {E A : Type 0} (f g : Form E A) : Type 0 where
-  pub spells : (x : A) (text : List ℕ) → f.Spells x text → g.Spells x text
-  pub troubles : (w : Window E) (at : ℕ) (bad : E) → f.Trouble w at bad → g.Trouble w at bad
 
 pub in_itself : {E A : Type 0} (f : Form E A) → IsIn f f
 in_itself f = record { spells = λ x text s. s; troubles = λ w at bad t. t }

@@ -5,30 +5,31 @@ use Rattle.std.specs.Str.{is_utf8}
 use Rattle.std.specs.Prelude.{◌==◌}
 use Rattle.std.proofs.lemmas.List.Elements.{All-nil, All-cons}
 use Rattle.owi_base.specs.Leb.{SpellsUnsigned}
-use Rattle.owi_base.specs.Forms.{gives, ◌>>=◌, many, checked, any_byte, when◌form◌else◌}
-use Rattle.owi_base.proofs.UnsignedLaws.{joined_below, chosen}
+use Rattle.grammar_forms.specs.Forms.{gives, ◌>>=◌, many, checked, any_byte, when◌form◌else◌}
+use Rattle.owi_base.proofs.UnsignedLaws.{joined_below}
 use Rattle.wasm_ast.specs.Shape.{IsShort, IsReference, FuncTypeHasShape}
 use Rattle.wasm_ast.specs.declared.types.ValType.{ValType}
 use Rattle.wasm_ast.specs.declared.types.ValType.TheVariants.{FuncRef, ExternRef}
 use Rattle.wasm_binary.specs.Faults.{Fault, byte, utf8}
 use Rattle.wasm_binary.specs.Values.{Grammar, u32, vec, name, text_of, tag}
 use Rattle.wasm_binary.specs.Types.{ref_type_of, ref_type, val_type, func_type, limits, table_type}
+use Rattle.owi_base.proofs.Choices.{chosen}
 
 -- numbers that are bytes
-abbrev pub AreBytes : List ℕ → Type 0
-AreBytes text = ByRecursion (λ b. b < 256) text
+abbrev pub EachIsByte : List ℕ → Type 0
+EachIsByte text = ByRecursion (λ b. b < 256) text
 
 -- bytes, fewer than 2^32
 pub record AreFew (text : List ℕ) : Type 0 where
-  pub bytes : AreBytes text
+  pub bytes : EachIsByte text
   pub short : length text < 2 ^ 32
 
-pub bytes_parts : (xs ys : List ℕ) → AreBytes (xs ++ ys) → AreBytes xs × AreBytes ys
+pub bytes_parts : (xs ys : List ℕ) → EachIsByte (xs ++ ys) → EachIsByte xs × EachIsByte ys
 bytes_parts [] ys h = (tt, h)
 bytes_parts (x ∷ xs) ys h = let others = bytes_parts xs ys h.1 in ((h.0, others.0), others.1)
 
-pub bytes_of : (text xs ys : List ℕ) → text ≡ xs ++ ys → AreBytes text → AreBytes xs × AreBytes ys
-bytes_of text xs ys e h = bytes_parts xs ys (subst AreBytes e h)
+pub bytes_of : (text xs ys : List ℕ) → text ≡ xs ++ ys → EachIsByte text → EachIsByte xs × EachIsByte ys
+bytes_of text xs ys e h = bytes_parts xs ys (subst EachIsByte e h)
 
 pub few_of : (text xs ys : List ℕ) → text ≡ xs ++ ys → AreFew text → AreFew xs × AreFew ys
 few_of text xs ys e few =
@@ -39,14 +40,14 @@ few_of text xs ys e few =
 
 -- ---- what is said of each value that a form spells
 
-pub record Says {A : Type 0} (f : Grammar A) (P : A → Type 0) : Type 0 where
+pub record SpellsOnly {A : Type 0} (f : Grammar A) (P : A → Type 0) : Type 0 where
   pub each : (x : A) (text : List ℕ) → AreFew text → f.Spells x text → P x
 
-pub gives_says : {A : Type 0} (P : A → Type 0) (x : A) → P x → Says (gives x) P
-gives_says P x p = record { each = λ y text few s. subst P (sym s.0) p }
+pub gives_only : {A : Type 0} (P : A → Type 0) (x : A) → P x → SpellsOnly (gives x) P
+gives_only P x p = record { each = λ y text few s. subst P (sym s.0) p }
 
-pub then_says : {A B : Type 0} {f : Grammar A} {g : A → Grammar B} (P : A → Type 0) (Q : B → Type 0) → Says f P → ((x : A) → P x → Says (g x) Q) → Says (f >>= g) Q
-then_says {A} {B} {f} {g} P Q p q = record {
+pub then_only : {A B : Type 0} {f : Grammar A} {g : A → Grammar B} (P : A → Type 0) (Q : B → Type 0) → SpellsOnly f P → ((x : A) → P x → SpellsOnly (g x) Q) → SpellsOnly (f >>= g) Q
+then_only {A} {B} {f} {g} P Q p q = record {
   each = λ y text few s.
       let parts = few_of text s.1 s.2 s.3 few in
       (q s.0 (p.each s.0 s.1 parts.0 s.4)).each y s.2 parts.1 s.5;
@@ -55,19 +56,19 @@ then_says {A} {B} {f} {g} P Q p q = record {
 abbrev pub Any : {A : Type 0} → A → Type 0
 Any x = Unit {0}
 
-pub any_says : {A : Type 0} (f : Grammar A) → Says f Any
-any_says f = record { each = λ x text few s. tt }
+pub any_only : {A : Type 0} (f : Grammar A) → SpellsOnly f Any
+any_only f = record { each = λ x text few s. tt }
 
-pub checked_says : {A B : Type 0} (f : Grammar A) (test : A → Result B (ℕ → Fault)) (P : A → Type 0) (Q : B → Type 0) → Says f P → ((x : A) (y : B) → P x → test x ≡ Ok y → Q y) → Says (checked f test) Q
-checked_says f test P Q p q = record { each = λ y text few s. q s.0 y (p.each s.0 text few s.1) s.2 }
+pub checked_only : {A B : Type 0} (f : Grammar A) (test : A → Result B (ℕ → Fault)) (P : A → Type 0) (Q : B → Type 0) → SpellsOnly f P → ((x : A) (y : B) → P x → test x ≡ Ok y → Q y) → SpellsOnly (checked f test) Q
+checked_only f test P Q p q = record { each = λ y text few s. q s.0 y (p.each s.0 text few s.1) s.2 }
 
-pub when_says : {A : Type 0} (P : A → Type 0) (b : Bool) (f g : Grammar A) → ((b ≡ true) → Says f P) → ((b ≡ false) → Says g P) → Says (when b form f else g) P
-when_says P true f g p q = p refl
-when_says P false f g p q = q refl
+pub when_only : {A : Type 0} (P : A → Type 0) (b : Bool) (f g : Grammar A) → ((b ≡ true) → SpellsOnly f P) → ((b ≡ false) → SpellsOnly g P) → SpellsOnly (when b form f else g) P
+when_only P true f g p q = p refl
+when_only P false f g p q = q refl
 
 -- ---- numbers
 
-below_width : (width : ℕ) (text : List ℕ) (n : ℕ) → AreBytes text → SpellsUnsigned width text n → n < 2 ^ width
+below_width : (width : ℕ) (text : List ℕ) (n : ℕ) → EachIsByte text → SpellsUnsigned width text n → n < 2 ^ width
 below_width width [] n bytes s = absurd s
 below_width width (b ∷ []) n bytes s = omega (arith, s.1, s.2)
 below_width width (b ∷ c ∷ text) n bytes s =
@@ -77,15 +78,15 @@ below_width width (b ∷ c ∷ text) n bytes s =
 abbrev pub IsU32 : ℕ → Type 0
 IsU32 n = n < 2 ^ 32
 
-pub u32_small : (n : ℕ) (text : List ℕ) → AreBytes text → u32.Spells n text → n < 2 ^ 32
+pub u32_small : (n : ℕ) (text : List ℕ) → EachIsByte text → u32.Spells n text → n < 2 ^ 32
 u32_small n text bytes s = below_width 32 text n bytes s
 
-pub u32_says : Says u32 IsU32
-u32_says = record { each = λ n text few s. u32_small n text few.bytes s }
+pub u32_only : SpellsOnly u32 IsU32
+u32_only = record { each = λ n text few s. u32_small n text few.bytes s }
 
 -- ---- vectors
 
-pub many_each : {A : Type 0} (P : A → Type 0) (f : Grammar A) → Says f P → (n : ℕ) (xs : List A) (text : List ℕ) → AreFew text → (many f n).Spells xs text → All P xs × (length xs ≡ n)
+pub many_each : {A : Type 0} (P : A → Type 0) (f : Grammar A) → SpellsOnly f P → (n : ℕ) (xs : List A) (text : List ℕ) → AreFew text → (many f n).Spells xs text → All P xs × (length xs ≡ n)
 many_each {A} P f p zero xs text few s =
     let Q : List A → Type 0 = λ l. All P l × (length l ≡ 0) in
     subst Q (sym s.0) (All-nil P, refl)
@@ -100,19 +101,19 @@ many_each {A} P f p (suc n) xs text few s =
 abbrev pub AreMany : {A : Type 0} → (A → Type 0) → ℕ → List A → Type 0
 AreMany P n xs = All P xs × (length xs ≡ n)
 
-pub many_says : {A : Type 0} (P : A → Type 0) (f : Grammar A) (n : ℕ) → Says f P → Says (many f n) (AreMany P n)
-many_says P f n p = record { each = λ xs text few s. many_each P f p n xs text few s }
+pub many_only : {A : Type 0} (P : A → Type 0) (f : Grammar A) (n : ℕ) → SpellsOnly f P → SpellsOnly (many f n) (AreMany P n)
+many_only P f n p = record { each = λ xs text few s. many_each P f p n xs text few s }
 
 abbrev pub AllShort : {A : Type 0} → (A → Type 0) → List A → Type 0
 AllShort P xs = All P xs × IsShort xs
 
-many_short : {A : Type 0} (P : A → Type 0) (f : Grammar A) (n : ℕ) → n < 2 ^ 32 → Says f P → Says (many f n) (AllShort P)
+many_short : {A : Type 0} (P : A → Type 0) (f : Grammar A) (n : ℕ) → n < 2 ^ 32 → SpellsOnly f P → SpellsOnly (many f n) (AllShort P)
 many_short P f n small p = record {
   each = λ xs text few s. let are = many_each P f p n xs text few s in (are.0, omega (arith, are.1, small));
 }
 
-pub vec_says : {A : Type 0} (P : A → Type 0) (f : Grammar A) → Says f P → Says (vec f) (AllShort P)
-vec_says P f p = then_says IsU32 (AllShort P) u32_says (λ n small. many_short P f n small p)
+pub vec_only : {A : Type 0} (P : A → Type 0) (f : Grammar A) → SpellsOnly f P → SpellsOnly (vec f) (AllShort P)
+vec_only P f p = then_only IsU32 (AllShort P) u32_only (λ n small. many_short P f n small p)
 
 abbrev text_ok : List ℕ → Result (List ℕ) (ℕ → Fault)
 text_ok bytes = Ok bytes
@@ -124,10 +125,10 @@ text_same bytes text e =
       | inr other ↦ let both = other.1 in absurd cc
     ]
 
-pub name_says : Says name IsShort
-name_says =
-    then_says IsU32 IsShort u32_says (λ n small.
-    checked_says (many any_byte n) text_of (AllShort Any) IsShort (many_short Any any_byte n small (any_says any_byte)) (λ bytes text are e.
+pub name_only : SpellsOnly name IsShort
+name_only =
+    then_only IsU32 IsShort u32_only (λ n small.
+    checked_only (many any_byte n) text_of (AllShort Any) IsShort (many_short Any any_byte n small (any_only any_byte)) (λ bytes text are e.
     subst IsShort (text_same bytes text e) are.1))
 
 -- ---- types
@@ -146,17 +147,17 @@ ref_kind b kind e =
           ]
     ]
 
-pub ref_type_says : Says ref_type IsReference
-ref_type_says = checked_says any_byte ref_type_of Any IsReference (any_says any_byte) (λ b kind any e. ref_kind b kind e)
+pub ref_type_only : SpellsOnly ref_type IsReference
+ref_type_only = checked_only any_byte ref_type_of Any IsReference (any_only any_byte) (λ b kind any e. ref_kind b kind e)
 
-pub table_type_says : Says table_type (λ t. IsReference t.kind)
-table_type_says =
-    then_says IsReference (λ t. IsReference t.kind) ref_type_says (λ kind is.
-    then_says Any (λ t. IsReference t.kind) (any_says limits) (λ size any. gives_says (λ t. IsReference t.kind) _ is))
+pub table_type_only : SpellsOnly table_type (λ t. IsReference t.kind)
+table_type_only =
+    then_only IsReference (λ t. IsReference t.kind) ref_type_only (λ kind is.
+    then_only Any (λ t. IsReference t.kind) (any_only limits) (λ size any. gives_only (λ t. IsReference t.kind) _ is))
 
-pub func_type_says : Says func_type FuncTypeHasShape
-func_type_says =
-    then_says Any FuncTypeHasShape (any_says (tag 0x60)) (λ b any.
-    then_says (AllShort Any) FuncTypeHasShape (vec_says Any val_type (any_says val_type)) (λ params are.
-    then_says (AllShort Any) FuncTypeHasShape (vec_says Any val_type (any_says val_type)) (λ results have.
-    gives_says FuncTypeHasShape _ (record { params = are.1; results = have.1 }))))
+pub func_type_only : SpellsOnly func_type FuncTypeHasShape
+func_type_only =
+    then_only Any FuncTypeHasShape (any_only (tag 0x60)) (λ b any.
+    then_only (AllShort Any) FuncTypeHasShape (vec_only Any val_type (any_only val_type)) (λ params are.
+    then_only (AllShort Any) FuncTypeHasShape (vec_only Any val_type (any_only val_type)) (λ results have.
+    gives_only FuncTypeHasShape _ (record { params = are.1; results = have.1 }))))

@@ -5,10 +5,10 @@ use Rattle.std.specs.Prelude.{slice_get, slice_index, nat_lt, ◌==◌, ◌&&◌
 use Rattle.std.proofs.lemmas.List.{get_or_append_left, get_or-append-add}
 use Rattle.std.proofs.lemmas.Bool.{cases_lt}
 use Rattle.std.proofs.lemmas.Bool.Decides.{nat_tests}
-use Rattle.owi_base.proofs.SignedReading.{taken}
 use Rattle.wasm_ast.specs.Numbering.{after, names, IsNumbered}
 use Rattle.wasm_ast.specs.declared.instructions.Instr.{Instr}
 use Rattle.wasm_ast.proofs.NumberingLemmas.{after-append, if_some}
+use Rattle.owi_base.proofs.Choices.{taken}
 
 -- ---- the numbers of sequences
 

@@ -1,4 +1,4 @@
-// Sequences that wait for the one inside them to end.
+// Sequences that enclose the one that is read.
 use std::marker::Model;
 use wasm_ast::{BlockType, Instr};
 
@@ -17,7 +17,7 @@ pub(crate) enum Opener {
 
 /// A sequence that is open, with another open inside it.
 #[derive(Drop)]
-pub(crate) struct Waiting {
+pub(crate) struct Enclosing {
     /// Its number.
     pub(crate) number: u32,
     /// What was read of it.
@@ -26,10 +26,10 @@ pub(crate) struct Waiting {
     pub(crate) opener: Opener,
 }
 
-impl Model for Waiting {
-    ghost use Rattle.wasm_read.specs.Nests.{Waiting as OneWaiting};
+impl Model for Enclosing {
+    ghost use Rattle.wasm_read.specs.Nests.{Enclosing as OneEnclosing};
 
-    ghost Value = { OneWaiting };
+    ghost Value = { OneEnclosing };
 
     ghost view = { λ w. record { number = w.number; instrs = w.instrs.items; opener = w.opener } };
 }

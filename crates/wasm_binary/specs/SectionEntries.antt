@@ -1,6 +1,6 @@
 -- The entries of a module's sections in bytes (Binary Format, Modules), but for those of the code section (Locals).
 use Rattle.std.specs.Prelude.{ℕ, [], ◌∷◌, true, ◌==◌, ◌||◌, nat_lt, if◌then◌else◌}
-use Rattle.owi_base.specs.Forms.{◌>>=◌, gives, any_byte, checked, when◌form◌else◌}
+use Rattle.grammar_forms.specs.Forms.{◌>>=◌, gives, any_byte, checked, when◌form◌else◌}
 use Rattle.wasm_ast.specs.declared.types.ValType.{ValType}
 use Rattle.wasm_ast.specs.declared.types.ValType.TheVariants.{FuncRef}
 use Rattle.wasm_ast.specs.declared.instructions.Instr.TheVariants.{RefFunc}

@@ -3,7 +3,7 @@ ghost use Rattle.std.specs.Prelude.{◌≡◌, ◌++◌, ◌≤◌, OnOk, is_som
 ghost use Rattle.std.specs.List.{list_all};
 ghost use Rattle.wasm_ast.specs.Shape.{ModeHasShape};
 ghost use Rattle.wasm_write.specs.Values.{vec_bytes};
-ghost use Rattle.wasm_write.specs.Parts.{import_kind_bytes, space_byte as byte_of_space, func_of as func_of_expr, is_func_ref as is_func_ref_kind, has_indices as has_indices_of, index_bytes, func_item_bytes, elem_front, segment_front};
+ghost use Rattle.wasm_write.specs.SectionEntries.{import_kind_bytes, space_byte as byte_of_space, func_of as func_of_expr, is_func_ref as is_func_ref_kind, has_indices as has_indices_of, index_bytes, func_item_bytes, elem_front, segment_front};
 
 use crate::expressions::put_expr;
 use crate::types::type_byte;
@@ -52,7 +52,7 @@ fn put_import_kind(alloc: Global, out: &mut Vec<u8>, kind: &ImportKind) -> Resul
 }
 
 impl Put for Import {
-    ghost use Rattle.wasm_write.specs.Parts.{import_bytes};
+    ghost use Rattle.wasm_write.specs.SectionEntries.{import_bytes};
 
     ghost Shape = { λ i. Unit {0} };
 
@@ -67,7 +67,7 @@ impl Put for Import {
 
 impl Put for GlobalDef {
     ghost use Rattle.wasm_ast.specs.Shape.{ExprHasShape};
-    ghost use Rattle.wasm_write.specs.Parts.{global_bytes};
+    ghost use Rattle.wasm_write.specs.SectionEntries.{global_bytes};
 
     ghost Shape = { λ g. ExprHasShape g.init };
 
@@ -91,7 +91,7 @@ fn space_byte(space: Space) -> u8
 }
 
 impl Put for Export {
-    ghost use Rattle.wasm_write.specs.Parts.{export_bytes};
+    ghost use Rattle.wasm_write.specs.SectionEntries.{export_bytes};
 
     ghost Shape = { λ e. Unit {0} };
 
@@ -203,7 +203,7 @@ fn put_elem_front(
 
 impl Put for Elem {
     ghost use Rattle.wasm_ast.specs.Shape.{ElemHasShape};
-    ghost use Rattle.wasm_write.specs.Parts.{elem_bytes};
+    ghost use Rattle.wasm_write.specs.SectionEntries.{elem_bytes};
 
     ghost Shape = { ElemHasShape };
 
@@ -246,7 +246,7 @@ fn put_segment_front(alloc: Global, out: &mut Vec<u8>, mode: &Mode) -> Result<()
 
 impl Put for Segment {
     ghost use Rattle.wasm_ast.specs.Shape.{SegmentHasShape};
-    ghost use Rattle.wasm_write.specs.Parts.{segment_bytes};
+    ghost use Rattle.wasm_write.specs.SectionEntries.{segment_bytes};
 
     ghost Shape = { SegmentHasShape };
 
@@ -259,7 +259,7 @@ impl Put for Segment {
 }
 
 impl Put for Group {
-    ghost use Rattle.wasm_write.specs.Parts.{group_bytes};
+    ghost use Rattle.wasm_write.specs.SectionEntries.{group_bytes};
 
     ghost Shape = { λ g. Unit {0} };
 
@@ -275,7 +275,7 @@ impl Put for Group {
 // Its code: a size, and then the locals and the body.
 impl Put for Func {
     ghost use Rattle.wasm_ast.specs.Shape.{FuncHasShape};
-    ghost use Rattle.wasm_write.specs.Parts.{code_bytes};
+    ghost use Rattle.wasm_write.specs.SectionEntries.{code_bytes};
 
     ghost Shape = { FuncHasShape };
 
