@@ -1,5 +1,6 @@
 pub mod Characters
 pub mod Comments
+pub mod Examples
 pub mod Lexing
 pub mod PrintedInstructions
 pub mod PrintedTypes

@@ -1,9 +1,11 @@
 // What follows of the definitions. These functions do nothing; their contracts are the laws.
-ghost use Rattle.std.specs.Prelude.{◌≡◌, ◌+◌, ◌<◌, ◌≤◌, ℕ, List, Option, Ok, Some, None, length};
+ghost use Rattle.std.specs.Prelude.{◌≡◌, ◌+◌, ◌<◌, ◌≤◌, ℕ, List, [], Option, Ok, Some, None, length};
 ghost use Rattle.wasm_text.specs.declared.tokens.Token.{Token as OneToken};
 ghost use Rattle.wasm_text.specs.declared.tokens.LexBad.{LexBad as OneTrouble};
 ghost use Rattle.wasm_text.specs.Comments.{ClosesComment};
+ghost use Rattle.wasm_text.specs.Examples.{words_text, words_tokens, adjoining_text, adjoining_tokens, adjoining_trouble, open_comment_text, open_comment_trouble, sum_module, sum_text, least_module, least_text};
 ghost use Rattle.wasm_text.specs.Lexing.{comment_end, string_end, next_token, AreTokens};
+ghost use Rattle.wasm_text.specs.Printing.{printed};
 ghost use Rattle.wasm_text.specs.Strings.{ClosesString};
 ghost use Rattle.wasm_text.specs.Tokens.{IsNext, IsEnd};
 
@@ -39,4 +41,13 @@ pub fn next_by_grammar(source: &str)
     ensures spelled { (at : ℕ) (t : OneToken) → IsNext source.now at t → next_token source.now at ≡ Ok (Some t) }
     ensures end_found { (at : ℕ) → at ≤ length source.now → next_token source.now at ≡ Ok None → IsEnd source.now at }
     ensures end_spelled { (at : ℕ) → IsEnd source.now at → next_token source.now at ≡ Ok None }
+{}
+
+/// Small texts have the tokens that they should have, and small modules are printed as they should be.
+pub fn examples()
+    ensures words { AreTokens words_text words_tokens None }
+    ensures adjoining { AreTokens adjoining_text adjoining_tokens (Some adjoining_trouble) }
+    ensures open_comment { AreTokens open_comment_text [] (Some open_comment_trouble) }
+    ensures sum { printed sum_module ≡ sum_text }
+    ensures least { printed least_module ≡ least_text }
 {}
