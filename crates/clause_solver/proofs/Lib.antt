@@ -3,7 +3,9 @@ pub mod Places
 pub mod Results
 pub mod Numbers
 pub mod Watching
+pub mod Guarding
 pub mod Settling
+pub mod Visiting
 pub mod Joins
 pub mod Analyses
 pub mod Running

@@ -1,16 +1,17 @@
--- On a trail that is cut to a lower level no clause but the one that was learnt is falsified or forces a literal.
+-- On a trail that is cut to a lower level all clauses but the one that was learnt are guarded.
 use Rattle.std.proofs.Common.{◌⊎◌, inl, inr, ◌≡◌, ◌<◌, ◌≤◌, ℕ, zero, suc, List, [], ◌∷◌, ◌++◌, length, refl, sym, ap, ◌∙◌, subst, arith, append_assoc}
 use Rattle.std.specs.Prelude.{Bool, true, false, ◌==◌, if◌then◌else◌, max, Option, Some, None, slice_get, nat_lt}
 use Rattle.std.proofs.lemmas.Bool.{eqb-true, ltb-true}
 use Rattle.refute_check.specs.Clauses.{Clause, Holds, variable_of}
-use Rattle.refute_check.specs.Machine.{Entry, Trail, entry_of, level_now, level_at, level_of, value_at, value_of, Unset, False, Status, Falsified, Forces, Idle, status, falsified, forced, forced_with, cut, count_at, highest_but}
+use Rattle.refute_check.specs.Resolution.{has}
+use Rattle.refute_check.specs.Machine.{Entry, Trail, entry_of, level_now, level_at, level_of, value_at, value_of, Unset, Status, Falsified, Forces, Idle, status, falsified, forced, forced_with, cut, count_at, highest_but}
 use Rattle.refute_check.specs.Rising.{level_after, IsLevelled}
-use Rattle.refute_check.proofs.Latest.{level_before}
-use Rattle.refute_check.proofs.Trails.{not-falsified, status-false, status-forces}
+use Rattle.refute_check.proofs.Latest.{level_before, levelled_cut}
+use Rattle.refute_check.proofs.Membership.{holds-has}
+use Rattle.refute_check.proofs.Trails.{not-falsified, unset-none}
 use Rattle.clause_solver.specs.Places.{IsOnce}
-use Rattle.clause_solver.specs.Watching.{status_at, IsSeen}
-use Rattle.clause_solver.specs.Settling.{AreIdle, WereIdle, IsSettled}
-use Rattle.clause_solver.proofs.Watching.{seen_idle}
+use Rattle.clause_solver.specs.Guarding.{IsGuarded, IsHeld, IsAlert, KeptAs, AllKept, GuardedAs, AreGuarded, WereGuarded, IsSettled, IsBelow}
+use Rattle.clause_solver.proofs.Guarding.{two_held, unset-value}
 
 -- ---- where no rule on clauses fits
 
@@ -27,25 +28,27 @@ forces-none t k (d ∷ cs) e i c f l g = go (λ e i f. forces-none t (suc k) cs 
     go rec Falsified h e i f = other rec (λ q. let x : Falsified ≡ Forces l = sym h ∙ q in cc) e i f
     go rec Idle h e i f = other rec (λ q. let x : Idle ≡ Forces l = sym h ∙ q in cc) e i f
 
-pub all_idle : (t : Trail) (cs : List Clause) → falsified t 0 cs ≡ None → forced t 0 cs ≡ None → AreIdle t cs
-all_idle t cs e f n = go (slice_get cs n) refl
+-- where no rule on clauses fits, all are guarded
+pub all_guarded : (t : Trail) (cs : List Clause) (ps : List (ℕ × ℕ)) (fs gs : List ℕ) → AllKept t cs ps fs gs → falsified t 0 cs ≡ None → forced t 0 cs ≡ None → AreGuarded t cs ps
+all_guarded t cs ps fs gs kept e f n = go (slice_get cs n) (slice_get ps n) refl (kept n)
   where
-    by : (c : Clause) → slice_get cs n ≡ Some c → (s : Status) → status t c ≡ s → status t c ≡ Idle
-    by c g Falsified h = absurd (not-falsified t cs e n c g h)
-    by c g (Forces l) h = absurd (forces-none t 0 cs f n c g l h)
-    by c g Idle h = h
-
-    go : (o : Option Clause) → slice_get cs n ≡ o → status_at t o ≡ Idle
-    go None g = refl
-    go (Some c) g = by c g (status t c) refl
+    go : (o : Option Clause) (p : Option (ℕ × ℕ)) → slice_get cs n ≡ o → KeptAs t o p fs gs n → GuardedAs t o p
+    go None p g k = tt
+    go (Some c) None g k = absurd k
+    go (Some c) (Some p) g k = by k.1
+      where
+        by : IsGuarded t c p ⊎ IsAlert t c p fs gs n → IsGuarded t c p
+        by (inl x) = x
+        by (inr (inl x)) = absurd (not-falsified t cs e n c g x.0)
+        by (inr (inr x)) = absurd (forces-none t 0 cs f n c g x.0 x.1)
 
 -- ---- a trail that is cut
 
-pub settled_cut : (n : ℕ) (t : Trail) (cs : List Clause) → IsSettled t cs → IsSettled (cut n t) cs
-settled_cut n [] cs h = tt
-settled_cut n (e ∷ t) cs h = go (settled_cut n t cs h.1) (nat_lt n e.level)
+pub settled_cut : (n : ℕ) (t : Trail) (cs : List Clause) (ps : List (ℕ × ℕ)) → IsSettled t cs ps → IsSettled (cut n t) cs ps
+settled_cut n [] cs ps h = tt
+settled_cut n (e ∷ t) cs ps h = go (settled_cut n t cs ps h.1) (nat_lt n e.level)
   where
-    go : IsSettled (cut n t) cs → (b : Bool) → IsSettled (if b then cut n t else e ∷ t) cs
+    go : IsSettled (cut n t) cs ps → (b : Bool) → IsSettled (if b then cut n t else e ∷ t) cs ps
     go rec true = rec
     go rec false = h
 
@@ -81,19 +84,19 @@ cut_off n e t h = go (nat_lt n e.level) refl
     go false f = absurd (grind (arith, f, h))
 
 -- cut below the present level, it is the trail before a decision
-pub cut_idle : (n : ℕ) (t : Trail) (cs : List Clause) → IsLevelled t → IsSettled t cs → n < level_now t → AreIdle (cut n t) cs
-cut_idle n [] cs l s h = absurd (omega (arith, h))
-cut_idle n (e ∷ t) cs l s h = subst (λ u. AreIdle u cs) (sym (cut_off n e t h)) (go (λ k. cut_idle n t cs l.1 s.1 k) (nat_lt n (level_now t)) refl)
+pub cut_guarded : (n : ℕ) (t : Trail) (cs : List Clause) (ps : List (ℕ × ℕ)) → IsLevelled t → IsSettled t cs ps → n < level_now t → AreGuarded (cut n t) cs ps
+cut_guarded n [] cs ps l s h = absurd (omega (arith, h))
+cut_guarded n (e ∷ t) cs ps l s h = subst (λ u. AreGuarded u cs ps) (sym (cut_off n e t h)) (go (λ k. cut_guarded n t cs ps l.1 s.1 k) (nat_lt n (level_now t)) refl)
   where
-    decided : level_now t ≤ n → (o : Option ℕ) → e.level ≡ level_after o t → WereIdle o t cs → AreIdle t cs
+    decided : level_now t ≤ n → (o : Option ℕ) → e.level ≡ level_after o t → WereGuarded o t cs ps → AreGuarded t cs ps
     decided low None f w = w
     decided low (Some r) f w = absurd (omega (arith, low, f, h))
 
-    go : (n < level_now t → AreIdle (cut n t) cs) → (b : Bool) → nat_lt n (level_now t) ≡ b → AreIdle (cut n t) cs
+    go : (n < level_now t → AreGuarded (cut n t) cs ps) → (b : Bool) → nat_lt n (level_now t) ≡ b → AreGuarded (cut n t) cs ps
     go rec true f = rec (ltb-true n (level_now t) f)
     go rec false f =
         let low : level_now t ≤ n = grind (arith, f) in
-        subst (λ u. AreIdle u cs) (sym (cut_whole n t low)) (decided low e.reason l.0 s.0)
+        subst (λ u. AreGuarded u cs ps) (sym (cut_whole n t low)) (decided low e.reason l.0 s.0)
 
 cut_suffix : (n : ℕ) (t : Trail) → (front : Trail) × (t ≡ front ++ cut n t)
 cut_suffix n [] = ([], refl)
@@ -132,23 +135,6 @@ unset_below front s l o h high = go (entry_of s (variable_of l)) refl
         let same : level_of (front ++ s) l ≡ x.level = ap (λ o. level_at o) (entry_later front s (variable_of l) x o e) in
         absurd (omega (arith, low, same, high))
 
--- a clause with two unset literals does nothing
-pub idle_two : (s : Trail) (c : Clause) (a b : ℕ) → Holds a c → Holds b c → (a ≡ b → ⊥) → value_of s a ≡ Unset → value_of s b ≡ Unset → status s c ≡ Idle
-idle_two s c a b ha hb n ua ub = go (status s c) refl
-  where
-    unset_false : (l : ℕ) → value_of s l ≡ Unset → value_of s l ≡ False → ⊥
-    unset_false l e f = let x : Unset ≡ False = sym e ∙ f in cc
-
-    go : (x : Status) → status s c ≡ x → status s c ≡ Idle
-    go Falsified e = absurd (unset_false a ua (status-false s c e a ha))
-    go (Forces l) e = by ((status-forces s c l e).others a ha) ((status-forces s c l e).others b hb)
-      where
-        by : (a ≡ l) ⊎ (value_of s a ≡ False) → (b ≡ l) ⊎ (value_of s b ≡ False) → status s c ≡ Idle
-        by (inl f) (inl g) = absurd (n (f ∙ sym g))
-        by (inr f) g = absurd (unset_false a ua f)
-        by (inl f) (inr g) = absurd (unset_false b ub g)
-    go Idle e = e
-
 pub last_held : (t : Trail) (level : ℕ) (c : Clause) → 1 ≤ count_at t level c → (l : ℕ) × Holds l c × (level_of t l ≡ level)
 last_held t level [] h = absurd (omega (arith, h))
 last_held t level (l ∷ c) h = go (λ k. last_held t level c k) (level_of t l == level) refl h
@@ -180,110 +166,139 @@ highest_held t level (l ∷ c) h = go (λ k. highest_held t level c k) (level_of
         by (inl f) = (l, inl refl, sym f)
         by (inr f) = let r = rec (subst (λ n. 1 ≤ n) f k) in (r.0, inr r.1, r.2 ∙ sym f)
 
+-- ---- below
+
+pub below_suffix : (front s : Trail) → IsOnce (front ++ s) → IsBelow s (front ++ s)
+below_suffix front s o l u = go (entry_of s (variable_of l)) refl
+  where
+    go : (x : Option Entry) → entry_of s (variable_of l) ≡ x → value_of s l ≡ Unset
+    go None e = unset-value s l e
+    go (Some x) e = let none : Some x ≡ None = sym (entry_later front s (variable_of l) x o e) ∙ unset-none l (entry_of (front ++ s) (variable_of l)) u in cc
+
+-- where all pairs guard what they guarded before, the trail stays settled
+settled_from : (front v : Trail) (cs : List Clause) (ps qs : List (ℕ × ℕ)) → IsOnce (front ++ v) → ((s : Trail) → IsBelow s (front ++ v) → AreGuarded s cs ps → AreGuarded s cs qs) → IsSettled v cs ps → IsSettled v cs qs
+settled_from front [] cs ps qs o before h = tt
+settled_from front (e ∷ v) cs ps qs o before h =
+    let whole : front ++ e ∷ v ≡ (front ++ e ∷ []) ++ v = sym (append_assoc front (e ∷ []) v) in
+    let once : IsOnce ((front ++ e ∷ []) ++ v) = subst (λ t. IsOnce t) whole o in
+    (go whole once e.reason h.0, settled_from (front ++ e ∷ []) v cs ps qs once (λ s b g. before s (subst (λ t. IsBelow s t) (sym whole) b) g) h.1)
+  where
+    go : front ++ e ∷ v ≡ (front ++ e ∷ []) ++ v → IsOnce ((front ++ e ∷ []) ++ v) → (r : Option ℕ) → WereGuarded r v cs ps → WereGuarded r v cs qs
+    go whole once (Some r) g = tt
+    go whole once None g = before v (subst (λ t. IsBelow v t) (sym whole) (below_suffix (front ++ e ∷ []) v once)) g
+
+pub settled_moved : (t : Trail) (cs : List Clause) (ps qs : List (ℕ × ℕ)) → IsOnce t → ((s : Trail) → IsBelow s t → AreGuarded s cs ps → AreGuarded s cs qs) → IsSettled t cs ps → IsSettled t cs qs
+settled_moved t cs ps qs o before h = settled_from [] t cs ps qs o before h
+
 -- ---- the clause that is learnt
 
--- it is idle before each decision of a level up to this one, where it has a literal of this level and one of a higher
-fresh_settled : (front u : Trail) (level a b : ℕ) (c : Clause) → IsOnce (front ++ u) → IsLevelled u → level_now u ≤ level →
-    Holds a c → level < level_of (front ++ u) a → (1 ≤ level → Holds b c × (level_of (front ++ u) b ≡ level)) → IsSettled u (c ∷ [])
-fresh_settled front [] level a b c o l low ha la hb = tt
-fresh_settled front (e ∷ u) level a b c o l low ha la hb = (
-  idle e.reason l.0,
-  fresh_settled (front ++ e ∷ []) u level a b c (subst (λ t. IsOnce t) whole o) l.1 (omega (arith, below, low)) ha (subst (λ t. level < level_of t a) whole la)
-      (λ k. ((hb k).0, subst (λ t. level_of t b ≡ level) whole (hb k).1)),
-)
+get-old : (cs : List Clause) (c : Clause) (n : ℕ) → n < length cs → slice_get (cs ++ c ∷ []) n ≡ slice_get cs n
+get-old [] c n l = absurd (omega (arith, l))
+get-old (d ∷ cs) c zero l = refl
+get-old (d ∷ cs) c (suc n) l = get-old cs c n (omega (arith, l))
+
+pub get-new : (cs : List Clause) (c : Clause) → slice_get (cs ++ c ∷ []) (length cs) ≡ Some c
+get-new [] c = refl
+get-new (d ∷ cs) c = get-new cs c
+
+get-past : (cs : List Clause) (n : ℕ) → length cs ≤ n → slice_get cs n ≡ None
+get-past [] n l = refl
+get-past (d ∷ cs) zero l = absurd (omega (arith, l))
+get-past (d ∷ cs) (suc n) l = get-past cs n (omega (arith, l))
+
+length-more : (cs : List Clause) (c : Clause) → length (cs ++ c ∷ []) ≡ suc (length cs)
+length-more [] c = refl
+length-more (d ∷ cs) c = ap suc (length-more cs c)
+
+-- what keeps and guards the clauses, with one more
+pub guarded_old : (s : Trail) (cs ds : List Clause) (c : Clause) (ps : List (ℕ × ℕ)) → ds ≡ cs ++ c ∷ [] → length ps ≡ length cs → AreGuarded s cs ps → (n : ℕ) → n < length ps → GuardedAs s (slice_get ds n) (slice_get ps n)
+guarded_old s cs ds c ps is count g n l =
+    subst (λ o. GuardedAs s o (slice_get ps n)) (sym (ap (λ ds. slice_get ds n) is ∙ get-old cs c n (omega (arith, l, count)))) (g n)
+
+-- Before each decision of a level up to this one the clause watches two unset literals: one of this level and one of a higher.
+module _ (level a b : ℕ) (c : Clause) (cs ds : List Clause) (ps qs : List (ℕ × ℕ)) (is : ds ≡ cs ++ c ∷ []) (count : length ps ≡ length cs) (ha : has c a ≡ true) (hb : has c b ≡ true) where
+  learnt_from : (above front u : Trail) → IsOnce (above ++ (front ++ u)) → IsLevelled u → level_now u ≤ level → level < level_of (above ++ (front ++ u)) a → (1 ≤ level → level_of (above ++ (front ++ u)) b ≡ level) →
+      ((s : Trail) → IsBelow s (front ++ u) → ((n : ℕ) → n < length ps → GuardedAs s (slice_get ds n) (slice_get ps n)) → GuardedAs s (slice_get ds (length ps)) (Some (a, b)) → (n : ℕ) → n < suc (length ps) → GuardedAs s (slice_get ds n) (slice_get qs n)) →
+      IsSettled u cs ps → IsSettled u ds qs
+  learnt_from above front [] o l low la lb before h = tt
+  learnt_from above front (e ∷ u) o l low la lb before h = (
+    guarded e.reason l.0 h.0,
+    learnt_from above (front ++ e ∷ []) u (subst (λ t. IsOnce (above ++ t)) whole o) l.1 (omega (arith, below, low)) (subst (λ t. level < level_of (above ++ t) a) whole la)
+        (λ k. subst (λ t. level_of (above ++ t) b ≡ level) whole (lb k)) (λ s x. before s (subst (λ t. IsBelow s t) (sym whole) x)) h.1,
+  )
+    where
+      below : level_now u ≤ e.level
+      below = level_before e u l
+
+      whole : front ++ e ∷ u ≡ (front ++ e ∷ []) ++ u
+      whole = sym (append_assoc front (e ∷ []) u)
+
+      all : above ++ (front ++ e ∷ u) ≡ (above ++ (front ++ e ∷ [])) ++ u
+      all = ap (λ t. above ++ t) whole ∙ sym (append_assoc above (front ++ e ∷ []) u)
+
+      once : IsOnce (front ++ e ∷ u)
+      once = later above (front ++ e ∷ u) o
+        where
+          later : (xs ys : Trail) → IsOnce (xs ++ ys) → IsOnce ys
+          later [] ys h = h
+          later (x ∷ xs) ys h = later xs ys h.1
+
+      guarded : (r : Option ℕ) → e.level ≡ level_after r u → WereGuarded r u cs ps → WereGuarded r u ds qs
+      guarded (Some r) f g = tt
+      guarded None f g = λ n. by n (nat_lt n (suc (length ps))) refl
+        where
+          high : level_now u < level
+          high = omega (arith, f, low)
+
+          same : level_of (above ++ (front ++ e ∷ u)) b ≡ level
+          same = lb (omega (arith, high))
+
+          apart : a ≡ b → ⊥
+          apart x = let y : level_of (above ++ (front ++ e ∷ u)) a ≡ level = ap (λ l. level_of (above ++ (front ++ e ∷ u)) l) x ∙ same in omega (arith, y, la)
+
+          ua : value_of u a ≡ Unset
+          ua = unset_below (above ++ (front ++ e ∷ [])) u a (subst (λ t. IsOnce t) all o) l.1 (subst (λ t. level_now u < level_of t a) all (omega (arith, high, la)))
+
+          ub : value_of u b ≡ Unset
+          ub = unset_below (above ++ (front ++ e ∷ [])) u b (subst (λ t. IsOnce t) all o) l.1 (subst (λ t. level_now u < level_of t b) all (let x = same in omega (arith, high, x)))
+
+          fresh : GuardedAs u (Some c) (Some (a, b))
+          fresh = inr (two_held c a b apart ha hb, ua, ub)
+
+          by : (n : ℕ) (t : Bool) → nat_lt n (suc (length ps)) ≡ t → GuardedAs u (slice_get ds n) (slice_get qs n)
+          by n true x = before u (subst (λ t. IsBelow u t) (sym whole) (below_suffix (front ++ e ∷ []) u (subst (λ t. IsOnce t) whole once)))
+              (guarded_old u cs ds c ps is count g) (subst (λ o. GuardedAs u o (Some (a, b))) (sym (ap (λ ds. slice_get ds (length ps)) is ∙ ap (λ k. slice_get (cs ++ c ∷ []) k) count ∙ get-new cs c)) fresh) n (ltb-true n (suc (length ps)) x)
+          by n false x =
+              let past : suc (length ps) ≤ n = grind (arith, x) in
+              let long : length ds ≡ suc (length cs) = ap (λ (ds : List Clause). length ds) is ∙ length-more cs c in
+              subst (λ o. GuardedAs u o (slice_get qs n)) (sym (get-past ds n (omega (arith, past, long, count)))) tt
+
+pub settled_learnt : (t u : Trail) (cs ds : List Clause) (ps qs : List (ℕ × ℕ)) (c d : Clause) (level : ℕ) (p : ℕ × ℕ) → u ≡ cut level t → ds ≡ cs ++ c ∷ [] → d ≡ c → length ps ≡ length cs → IsOnce t → IsLevelled t → IsSettled t cs ps →
+    level ≡ highest_but t (level_now t) c → level < level_now t → 1 ≤ count_at t (level_now t) d → IsHeld d p →
+    ((l : ℕ) → has d l ≡ true → level_of t l ≡ level_now t → level_of t p.0 ≡ level_now t) → ((l : ℕ) → has d l ≡ true → level_of t l ≡ level → level_of t p.1 ≡ level) →
+    ((s : Trail) → IsBelow s u → ((n : ℕ) → n < length ps → GuardedAs s (slice_get ds n) (slice_get ps n)) → GuardedAs s (slice_get ds (length ps)) (Some p) → (n : ℕ) → n < suc (length ps) → GuardedAs s (slice_get ds n) (slice_get qs n)) →
+    IsSettled u ds qs
+settled_learnt t u cs ds ps qs c d level p is more same count o l s e low some held first second before =
+    go held (cut_suffix level t)
   where
-    below : level_now u ≤ e.level
-    below = level_before e u l
+    some' : 1 ≤ count_at t (level_now t) c
+    some' = subst (λ d. 1 ≤ count_at t (level_now t) d) same some
 
-    whole : front ++ e ∷ u ≡ (front ++ e ∷ []) ++ u
-    whole = sym (append_assoc front (e ∷ []) u)
+    x : (m : ℕ) × Holds m c × (level_of t m ≡ level_now t)
+    x = last_held t (level_now t) c some'
 
-    idle : (r : Option ℕ) → e.level ≡ level_after r u → WereIdle r u (c ∷ [])
-    idle (Some r) f = tt
-    idle None f = λ n. by n
-      where
-        high : level_now u < level
-        high = omega (arith, f, low)
+    la : level_of t p.0 ≡ level_now t
+    la = first x.0 (ap (λ d. has d x.0) same ∙ holds-has c x.0 x.1) x.2
 
-        hb' : Holds b c × (level_of (front ++ e ∷ u) b ≡ level)
-        hb' = hb (omega (arith, high))
+    lb : 1 ≤ level → level_of t p.1 ≡ level
+    lb k =
+        let y = highest_held t (level_now t) c (omega (arith, k, e)) in
+        second y.0 (ap (λ d. has d y.0) same ∙ holds-has c y.0 y.1) (y.2 ∙ sym e)
 
-        two : status u c ≡ Idle
-        two = idle_two u c a b ha hb'.0 (λ same. let x : level_of (front ++ e ∷ u) a ≡ level = ap (λ l. level_of (front ++ e ∷ u) l) same ∙ hb'.1 in omega (arith, x, la))
-            (unset_below (front ++ e ∷ []) u a (subst (λ t. IsOnce t) whole o) l.1 (subst (λ t. level_now u < level_of t a) whole (omega (arith, high, la))))
-            (unset_below (front ++ e ∷ []) u b (subst (λ t. IsOnce t) whole o) l.1 (subst (λ t. level_now u < level_of t b) whole (let x = hb'.1 in omega (arith, high, x))))
-
-        by : (n : ℕ) → status_at u (slice_get (c ∷ []) n) ≡ Idle
-        by zero = two
-        by (suc n) = refl
-
--- one clause more
-get_more : (P : Option Clause → Type 0) (cs : List Clause) (c : Clause) → P None → (n : ℕ) → P (slice_get cs n) → P (Some c) → P (slice_get (cs ++ c ∷ []) n)
-get_more P [] c none zero p q = q
-get_more P [] c none (suc n) p q = none
-get_more P (d ∷ cs) c none zero p q = p
-get_more P (d ∷ cs) c none (suc n) p q = get_more P cs c none n p q
-
-settled_more : (u : Trail) (cs : List Clause) (c : Clause) → IsSettled u cs → IsSettled u (c ∷ []) → IsSettled u (cs ++ c ∷ [])
-settled_more [] cs c h k = tt
-settled_more (e ∷ u) cs c h k = (go e.reason h.0 k.0, settled_more u cs c h.1 k.1)
-  where
-    go : (r : Option ℕ) → WereIdle r u cs → WereIdle r u (c ∷ []) → WereIdle r u (cs ++ c ∷ [])
-    go (Some r) f g = tt
-    go None f g = λ n. get_more (λ o. status_at u o ≡ Idle) cs c refl n (f n) (g 0)
-
-pub settled_learnt : (t : Trail) (cs : List Clause) (c : Clause) (level : ℕ) → IsOnce t → IsLevelled t → IsSettled t cs → highest_but t (level_now t) c ≡ level → level < level_now t → 1 ≤ count_at t (level_now t) c →
-    IsSettled (cut level t) (cs ++ c ∷ [])
-settled_learnt t cs c level o l s e low some = settled_more (cut level t) cs c (settled_cut level t cs s) (fresh (cut_suffix level t))
-  where
-    a : (m : ℕ) × Holds m c × (level_of t m ≡ level_now t)
-    a = last_held t (level_now t) c some
-
-    levelled_cut : (n : ℕ) (t : Trail) → IsLevelled t → IsLevelled (cut n t)
-    levelled_cut n [] h = tt
-    levelled_cut n (x ∷ t) h = go (levelled_cut n t h.1) (nat_lt n x.level)
-      where
-        go : IsLevelled (cut n t) → (b : Bool) → IsLevelled (if b then cut n t else x ∷ t)
-        go rec true = rec
-        go rec false = h
-
-    with : (b : ℕ) → (1 ≤ level → Holds b c × (level_of t b ≡ level)) → (front : Trail) × (t ≡ front ++ cut level t) → IsSettled (cut level t) (c ∷ [])
-    with b hb f = fresh_settled f.0 (cut level t) level a.0 b c (subst (λ t. IsOnce t) f.1 o) (levelled_cut level t l) (cut_low level t) a.1
-        (subst (λ t. level < level_of t a.0) f.1 (let x = a.2 in omega (arith, x, low))) (λ k. ((hb k).0, subst (λ t. level_of t b ≡ level) f.1 (hb k).1))
-
-    fresh : (front : Trail) × (t ≡ front ++ cut level t) → IsSettled (cut level t) (c ∷ [])
-    fresh f = by (nat_lt 0 level) refl
-      where
-        by : (b : Bool) → nat_lt 0 level ≡ b → IsSettled (cut level t) (c ∷ [])
-        by true g =
-            let pos : 1 ≤ highest_but t (level_now t) c = let x : 0 < level = ltb-true 0 level g in omega (arith, x, e) in
-            let h = highest_held t (level_now t) c pos in
-            with h.0 (λ k. (h.1, h.2 ∙ e)) f
-        by false g = with 0 (λ k. absurd (grind (arith, g, k))) f
-
--- ---- what is seen after a conflict
-
--- all clauses but the last are idle, and that was looked at
-pub seen_last : (t : Trail) (cs : List Clause) (c : Clause) (fs gs : List ℕ) → AreIdle t cs → IsSeen t (cs ++ c ∷ []) fs gs (length cs) → (n : ℕ) → IsSeen t (cs ++ c ∷ []) fs gs n
-seen_last t cs c fs gs idle last n = go (n == length cs) refl
-  where
-    old : (cs : List Clause) (n : ℕ) → (n ≡ length cs → ⊥) → status_at t (slice_get cs n) ≡ Idle → Idle ≡ status_at t (slice_get (cs ++ c ∷ []) n)
-    old [] zero m e = absurd (m refl)
-    old [] (suc n) m e = refl
-    old (d ∷ cs) zero m e = sym e
-    old (d ∷ cs) (suc n) m e = old cs n (λ f. m (ap suc f)) e
-
-    go : (b : Bool) → (n == length cs) ≡ b → IsSeen t (cs ++ c ∷ []) fs gs n
-    go true f = subst (λ n. IsSeen t (cs ++ c ∷ []) fs gs n) (sym (eqb-true n (length cs) f)) last
-    go false f = seen_idle t (slice_get (cs ++ c ∷ []) n) fs gs n (old cs n (λ e. grind (arith, f, e)) (idle n))
-
-pub learnt_seen : (t u : Trail) (cs ds : List Clause) (c : Clause) (level number : ℕ) → u ≡ cut level t → ds ≡ cs ++ c ∷ [] → number ≡ length cs → IsLevelled t → IsSettled t cs → level < level_now t →
-    (fs gs : List ℕ) → IsSeen u ds fs gs number → (n : ℕ) → IsSeen u ds fs gs n
-learnt_seen t u cs ds c level number is more at l s low fs gs last n =
-    subst (λ u. IsSeen u ds fs gs n) (sym is) (subst (λ ds. IsSeen (cut level t) ds fs gs n) (sym more)
-    (seen_last (cut level t) cs c fs gs (cut_idle level t cs l s low) (subst (λ k. IsSeen (cut level t) (cs ++ c ∷ []) fs gs k) at (subst (λ ds. IsSeen (cut level t) ds fs gs number) more (subst (λ u. IsSeen u ds fs gs number) is last))) n))
-
-pub learnt_settled : (t u : Trail) (cs ds : List Clause) (c d : Clause) (level : ℕ) → u ≡ cut level t → ds ≡ cs ++ c ∷ [] → d ≡ c → IsOnce t → IsLevelled t → IsSettled t cs → level ≡ highest_but t (level_now t) c → level < level_now t →
-    1 ≤ count_at t (level_now t) d → IsSettled u ds
-learnt_settled t u cs ds c d level is more same o l s e low some =
-    subst (λ u. IsSettled u ds) (sym is) (subst (λ ds. IsSettled (cut level t) ds) (sym more) (settled_learnt t cs c level o l s (sym e) low (subst (λ d. 1 ≤ count_at t (level_now t) d) same some)))
+    go : IsHeld d p → (front : Trail) × (t ≡ front ++ cut level t) → IsSettled u ds qs
+    go (inl k) f = let z = subst (λ c. Holds x.0 c) (sym same ∙ k) x.1 in absurd z
+    go (inr k) f = subst (λ u. IsSettled u ds qs) (sym is)
+        (learnt_from level p.0 p.1 c cs ds ps qs more count (sym (ap (λ d. has d p.0) same) ∙ k.0) (sym (ap (λ d. has d p.1) same) ∙ k.1) f.0 [] (cut level t) (subst (λ t. IsOnce t) f.1 o) (levelled_cut level t l) (cut_low level t)
+        (subst (λ t. level < level_of t p.0) f.1 (let y = la in omega (arith, y, low))) (λ j. subst (λ t. level_of t p.1 ≡ level) f.1 (lb j))
+        (subst (λ u. (s : Trail) → IsBelow s u → ((n : ℕ) → n < length ps → GuardedAs s (slice_get ds n) (slice_get ps n)) → GuardedAs s (slice_get ds (length ps)) (Some p) → (n : ℕ) → n < suc (length ps) → GuardedAs s (slice_get ds n) (slice_get qs n)) is before)
+        (settled_cut level t cs ps s))

@@ -16,6 +16,7 @@ mod resolution;
 mod rules;
 pub mod solver;
 mod trail;
+mod watches;
 
 pub use answer::Answer;
 pub use solver::solve;
