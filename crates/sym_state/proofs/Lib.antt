@@ -4,3 +4,4 @@ pub mod ExactLemmas
 pub mod ValueLemmas
 pub mod PlaceLemmas
 pub mod SideLemmas
+pub mod ExampleNodes

@@ -1,4 +1,5 @@
 // Each law is called once.
+use crate::examples::nodes_have_their_members;
 use crate::laws::{
     answers_lead_on, conditions_say_who_is_a_member, roots_are_exact,
     runs_over_terms_stand_for_all, sides_stand_for_their_nodes, values_keep_operations,
@@ -12,4 +13,5 @@ fn laws_take_nothing_and_give_nothing() {
     runs_over_terms_stand_for_all();
     sides_stand_for_their_nodes();
     answers_lead_on();
+    nodes_have_their_members();
 }
