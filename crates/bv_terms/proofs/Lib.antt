@@ -1,11 +1,15 @@
 pub mod WidthLemmas
 pub mod SameLemmas
+mod OperandLemmas
+mod OperationRules
 pub mod RuleLemmas
+mod SymbolLemmas
 pub mod KindLemmas
 pub mod ListLemmas
 pub mod GraphLemmas
 mod FindLemmas
 mod FitLemmas
+mod OperationFits
 pub mod MakeLemmas
 mod ValueLemmas
 mod WalkLemmas

@@ -3,10 +3,10 @@ ghost use Rattle.std.specs.Prelude.{IfOk};
 ghost use Rattle.bv_terms.specs.Terms.{HasWidth};
 ghost use Rattle.bv_terms.specs.Graphs.{Holds, term_of};
 
-use crate::{Graph, Marks, Symbols, Word, value_at};
+use crate::{Graph, Marks, Word, value_at};
 use std::alloc::AllocError;
 use std::test::Fail;
-use wasm_rules::{Algebra, Drawer};
+use wasm_rules::Algebra;
 
 const ADD64: u8 = 0x7C;
 
@@ -34,18 +34,5 @@ fn a_chain_of_a_million_additions_has_its_sum(rt: HostRuntime) -> Result<(), Fai
     let mut marks = Marks::new(rt.alloc(), terms)?;
     assert_eq!(rt; value_at(&graph, sum, &[3], &mut marks), 3_000_003);
     assert_eq!(rt; value_at(&graph, sum, &[], &mut marks), 0);
-    Ok(())
-}
-
-#[test]
-fn symbols_have_their_numbers(rt: HostRuntime) -> Result<(), Fail> {
-    let mut graph = Graph::new(rt.alloc())?;
-    let narrow = Symbols::new().draw(&mut graph, false)?;
-    let terms = graph.terms();
-    let mut marks = Marks::new(rt.alloc(), terms)?;
-    assert_eq!(rt; value_at(&graph, narrow, &[0x1_0000_0007], &mut marks), 7);
-    assert_eq!(rt; value_at(&graph, narrow, &[], &mut marks), 0);
-    assert_eq!(rt; graph.symbol(0, false)?, narrow);
-    assert_eq!(rt; graph.terms(), 1);
     Ok(())
 }
