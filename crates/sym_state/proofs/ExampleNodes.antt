@@ -1,5 +1,5 @@
 -- The examples of nodes, by computing.
-use Rattle.std.proofs.Common.{◌≡◌, List, [], ◌∷◌, refl, sym, subst}
+use Rattle.std.proofs.Common.{◌≡◌, zero, suc, List, [], ◌∷◌, refl, sym, subst}
 use Rattle.int_ops.specs.Operators.{operator_of}
 use Rattle.wasm_ast.specs.declared.runs.Cause.TheVariants.{Table}
 use Rattle.wasm_ast.specs.declared.runs.Outcome.TheVariants.{Returns, Traps}
@@ -35,13 +35,15 @@ first_is = (record { turns = 80; halt = _; trace = _; over = refl; first = (refl
 abbrev past_end : Script
 past_end = Asked Test 1 (draw32 5 ∷ []) (Finished (Traps Table) (draw32 5 ∷ []))
 
+one-not-zero : suc zero ≡ zero → ⊥
+one-not-zero e = cc
+
 pub not-within : IsMember within (5 ∷ []) → ⊥
 not-within m =
     let at = m.1 in
     let same : at.script ≡ past_end = one-script looks_up 4 [] (5 ∷ []) 100 at.script past_end at.is_script script_examples.place_past_the_end in
     let answers : Past (0 ∷ []) past_end m.0 = subst (λ s. Past (0 ∷ []) s m.0) same at.past in
-    let zero_is_one : 1 ≡ 0 = answers.0 in
-    absurd cc
+    one-not-zero answers.0
 
 pub not-others : IsMember others (1 ∷ []) → ⊥
 not-others m =

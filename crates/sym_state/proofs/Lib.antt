@@ -5,3 +5,4 @@ pub mod ValueLemmas
 pub mod PlaceLemmas
 pub mod SideLemmas
 pub mod ExampleNodes
+pub mod DrawnLemmas

@@ -4,7 +4,7 @@ use Rattle.wasm_reduction.specs.Configurations.{Config, End, Question}
 use Rattle.wasm_reduction.specs.Steps.{answered}
 use Rattle.wasm_reduction.specs.Runs.{Turned, On, Over, Ended, Bound, Deep, Stands, by_list, runs, runs_at}
 use Rattle.wasm_reduction.specs.RunImages.{turned_image, trace_of}
-use Rattle.bv_terms.specs.Terms.{Term, value_of}
+use Rattle.bv_terms.specs.Terms.{Term, HasBits, HasSymbols, value_of}
 use Rattle.bv_terms.specs.Making.{terms}
 use Rattle.sym_state.specs.Nodes.{Condition, AreMet, Node, IsMember, IsLeastOf}
 use Rattle.sym_state.specs.NextNodes.{bit}
@@ -34,6 +34,10 @@ pub record Path : Type 0 where
 -- the run over terms that has these answers, and no more, after so many turns
 abbrev pub over_terms : Node → ℕ → Turned Term
 over_terms n turns = runs terms terms.symbol (by_list n.answers) n.invocation.«module» n.invocation.entry n.invocation.args n.invocation.steps turns
+
+-- a term of a width, whose symbols are among these draws
+abbrev pub HasOver : List Bool → ℕ → Term → Type 0
+HasOver draws bits t = HasBits bits t × HasSymbols draws t
 
 -- the bounded run at an input after so many turns
 abbrev pub run_at : Node → List ℕ → ℕ → Turned ℕ
