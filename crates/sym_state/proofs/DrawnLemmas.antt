@@ -1,5 +1,5 @@
 -- The words of a run over terms: their widths, and their symbols.
-use Rattle.std.proofs.Common.{◌≡◌, ℕ, zero, suc, List, [], ◌∷◌, ◌++◌, All, length, refl, sym, ap, ◌∙◌, subst, inl, inr, ⊎_elim}
+use Rattle.std.proofs.Common.{◌≡◌, ℕ, zero, suc, List, [], ◌∷◌, ◌++◌, All, length, refl, subst, inl, inr, ⊎_elim}
 use Rattle.std.specs.Prelude.{◌⊎◌, Bool, true, false, if◌then◌else◌, Option, Some, None, slice_get, nat_lt, nat_le, ◌&&◌, Result, Ok, Err}
 use Rattle.std.specs.List.{AllByRecursion}
 use Rattle.std.proofs.lemmas.List.Elements.{All-weaker, All-head, All-tail}
@@ -10,7 +10,7 @@ use Rattle.wasm_reduction.specs.Steps.{step}
 use Rattle.wasm_reduction.specs.Instantiation.{first_config}
 use Rattle.wasm_reduction.specs.Maps.{ValuesHave}
 use Rattle.wasm_reduction.specs.Widths.{LabelHasWidths, FrameHasWidths, HasWidths, NextHasWidths}
-use Rattle.wasm_reduction.specs.Runs.{Trace, Going, Halt, Stands, Ended, Bound, Deep, Turned, On, Over, Reply, replied, follow_by, is_due, most_frames, follow, then_follow, follows, started_by, started, by_list}
+use Rattle.wasm_reduction.specs.Runs.{Trace, Going, Stands, Ended, Bound, Deep, Turned, On, Over, Reply, replied, follow_by, is_due, most_frames, follow, then_follow, follows, started_by, started, by_list}
 use Rattle.wasm_reduction.proofs.WideSteps.{step-wide, answered-wide, symbol-wide}
 use Rattle.wasm_reduction.proofs.WideStarts.{code-in-range, first-wide}
 use Rattle.bv_terms.specs.Terms.{Term, Number, Symbol, Unary, Binary, Choose, Byte, Join, Bytes, NoBytes, Then, bytes_from, HasBits, HasSymbols, HaveSymbols}

@@ -1,5 +1,5 @@
 -- The examples of nodes, by computing.
-use Rattle.std.proofs.Common.{◌≡◌, zero, suc, List, [], ◌∷◌, refl, sym, subst}
+use Rattle.std.proofs.Common.{◌≡◌, zero, suc, [], ◌∷◌, refl, sym, subst}
 use Rattle.int_ops.specs.Operators.{operator_of}
 use Rattle.wasm_ast.specs.declared.runs.Cause.TheVariants.{Table}
 use Rattle.wasm_ast.specs.declared.runs.Outcome.TheVariants.{Returns, Traps}

@@ -6,3 +6,4 @@ pub mod PlaceLemmas
 pub mod SideLemmas
 pub mod ExampleNodes
 pub mod DrawnLemmas
+pub mod LeastLemmas

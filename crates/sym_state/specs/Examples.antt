@@ -1,5 +1,5 @@
 -- Nodes of a small run: an element of a table of two nulls is taken, at the place that a symbol says.
-use Rattle.std.specs.Prelude.{◌≡◌, ℕ, List, [], ◌∷◌, Bool, true, false}
+use Rattle.std.specs.Prelude.{◌≡◌, ℕ, List, [], ◌∷◌, true, false}
 use Rattle.wasm_reduction.specs.Configurations.{Test, Pick}
 use Rattle.wasm_reduction.specs.Runs.{Trace, Over, Stands}
 use Rattle.wasm_reduction.specs.ScriptExamples.{looks_up}
