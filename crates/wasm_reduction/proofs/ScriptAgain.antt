@@ -51,10 +51,12 @@ module _ (draw draw' : ℕ → Bool → ℕ) (reply : Reply ℕ) (m : Module) (s
 
   by-same : (g : Going ℕ) (x : Next ℕ) → Same g (follow_by draw reply g x) (follow_by draw' reply g x)
   by-same g (Goes c) = (extends-self g.trace.symbols, λ zs ext agree. refl)
-  by-same g (Draws wide c) =
-      ((wide ∷ [], refl), λ zs ext agree.
-      ap (λ w. On (record { config = with_symbol c wide w; trace = record (g.trace) { symbols = g.trace.symbols ++ wide ∷ [] } }))
-      (sym (agree (length g.trace.symbols) wide (ap (λ l. slice_get l (length g.trace.symbols)) ext.1 ∙ last-get g.trace.symbols wide ext.0))))
+  by-same g (Draws wide c) = (
+    (wide ∷ [], refl),
+    λ zs ext agree.
+        ap (λ w. On (record { config = with_symbol c wide w; trace = record (g.trace) { symbols = g.trace.symbols ++ wide ∷ [] } }))
+        (sym (agree (length g.trace.symbols) wide (ap (λ l. slice_get l (length g.trace.symbols)) ext.1 ∙ last-get g.trace.symbols wide ext.0))),
+  )
   by-same g (Asks q v) = at (reply q v g.trace.answers)
     where
       at : (o : Option ℕ) → Same g (replied g q v o) (replied g q v o)
@@ -74,10 +76,11 @@ module _ (draw draw' : ℕ → Bool → ℕ) (reply : Reply ℕ) (m : Module) (s
       at : ((v : Going ℕ) → Same v (follows numbers draw reply m steps n v) (follows numbers draw' reply m steps n v)) → (x : Turned ℕ) → Same g x (follow numbers draw' reply m steps g) →
           Same g (then_follow x (follows numbers draw reply m steps n)) (then_follow (follow numbers draw' reply m steps g) (follows numbers draw' reply m steps n))
       at rec (On v) first =
-          let rest = rec v in
-          (extends-more g.trace.symbols v.trace.symbols (Symbols (follows numbers draw reply m steps n v)) first.0 rest.0,
-          λ zs ext agree.
-          ap (λ y. then_follow y (follows numbers draw' reply m steps n)) (first.1 zs (extends-more v.trace.symbols (Symbols (follows numbers draw reply m steps n v)) zs rest.0 ext) agree) ∙ rest.1 zs ext agree)
+          let rest = rec v in (
+            extends-more g.trace.symbols v.trace.symbols (Symbols (follows numbers draw reply m steps n v)) first.0 rest.0,
+            λ zs ext agree.
+                ap (λ y. then_follow y (follows numbers draw' reply m steps n)) (first.1 zs (extends-more v.trace.symbols (Symbols (follows numbers draw reply m steps n v)) zs rest.0 ext) agree) ∙ rest.1 zs ext agree,
+          )
       at rec (Over halt trace) first = (first.0, λ zs ext agree. ap (λ y. then_follow y (follows numbers draw' reply m steps n)) (first.1 zs ext agree))
 
 -- ---- draws
@@ -128,10 +131,10 @@ read-again I o (wide ∷ symbols) before =
     let v : ℕ = taken I o wide in
     let rest : List ℕ = as_input (draws_from I (o + 1) symbols) in
     let value : taken (before ++ v ∷ rest) (length before) wide ≡ v =
-      ap (λ n. n % 2 ^ bits_where wide) (index-past before v rest) ∙ mod-eq_of_lt (mod_below (slice_index I o) (2 ^ bits_where wide) (pow_pos (bits_where wide))) in
+    ap (λ n. n % 2 ^ bits_where wide) (index-past before v rest) ∙ mod-eq_of_lt (mod_below (slice_index I o) (2 ^ bits_where wide) (pow_pos (bits_where wide))) in
     let others : GivesDraws (before ++ v ∷ rest) (length before + 1) (draws_from I (o + 1) symbols) =
-      subst (λ n. GivesDraws (before ++ v ∷ rest) n (draws_from I (o + 1) symbols)) (length-last before v)
-      (subst (λ l. GivesDraws l (length (before ++ v ∷ [])) (draws_from I (o + 1) symbols)) (append_assoc before (v ∷ []) rest) (read-again I (o + 1) symbols (before ++ v ∷ []))) in
+    subst (λ n. GivesDraws (before ++ v ∷ rest) n (draws_from I (o + 1) symbols)) (length-last before v)
+    (subst (λ l. GivesDraws l (length (before ++ v ∷ [])) (draws_from I (o + 1) symbols)) (append_assoc before (v ∷ []) rest) (read-again I (o + 1) symbols (before ++ v ∷ []))) in
     ap (λ n. record { wide = wide; value = n } ∷ draws_from (before ++ v ∷ rest) (length before + 1) (widths (draws_from I (o + 1) symbols))) value
     ∙ ap (λ l. record { wide = wide; value = v } ∷ l) others
 
@@ -160,7 +163,7 @@ module _ (m : Module) (entry : ℕ) (args : List PlainValue) (steps : ℕ) where
   comes-again I O A s t c k gives =
       let mine : draws_from I 0 c.trace.symbols ≡ drawn s = first-drawn I c.halt c.trace s c.first in
       let theirs : draws_from O 0 c.trace.symbols ≡ draws_from I 0 c.trace.symbols =
-        ap (draws_from O 0) (sym (widths-drawn I 0 c.trace.symbols) ∙ ap widths mine) ∙ gives ∙ sym mine in
+      ap (draws_from O 0) (sym (widths-drawn I 0 c.trace.symbols) ∙ ap widths mine) ∙ gives ∙ sym mine in
       let agree : Agree (taken I) (taken O) (by_list A) m steps c.trace.symbols = λ k wide e. subst (λ n. taken I n wide ≡ taken O n wide) (omega arith) (given-same I O 0 c.trace.symbols (sym theirs) k wide e) in
       let over : By O A c.turns ≡ Over c.halt c.trace = at (Start m entry args I steps) agree c.over in
       first-again I O c.halt c.trace s t c.first (first-of m entry args O steps A t k c.turns c.halt c.trace over) theirs
@@ -180,11 +183,12 @@ module _ (m : Module) (entry : ℕ) (args : List PlainValue) (steps : ℕ) where
       let c = comes-of m entry args I steps (A ++ answer_of q v ∷ []) rest h.1 in
       let j = ahead m entry args I steps (by_list (A ++ answer_of q v ∷ [])) (Start m entry args I steps) p.1.turns c.turns p.0 c.halt c.trace longer c.over in
       let grown : Extends p.0.trace.symbols c.trace.symbols =
-        subst (λ x. Extends p.0.trace.symbols (trace_of x).symbols) j.1 (follows-same (taken I) (taken I) (by_list (A ++ answer_of q v ∷ [])) m steps j.0 p.0).0 in
-      let before : draws_from I 0 p.0.trace.symbols ≡ d = ap (λ t. draws_from I 0 t.symbols) p.2 ∙ h.0.first.1 in
-      (draws_from I (0 + length p.0.trace.symbols) grown.0,
-      sym (first-drawn I c.halt c.trace rest c.first) ∙ ap (draws_from I 0) grown.1 ∙ draws-append I 0 p.0.trace.symbols grown.0
-      ∙ ap (λ l. l ++ draws_from I (0 + length p.0.trace.symbols) grown.0) before)
+      subst (λ x. Extends p.0.trace.symbols (trace_of x).symbols) j.1 (follows-same (taken I) (taken I) (by_list (A ++ answer_of q v ∷ [])) m steps j.0 p.0).0 in
+      let before : draws_from I 0 p.0.trace.symbols ≡ d = ap (λ t. draws_from I 0 t.symbols) p.2 ∙ h.0.first.1 in (
+        draws_from I (0 + length p.0.trace.symbols) grown.0,
+        sym (first-drawn I c.halt c.trace rest c.first) ∙ ap (draws_from I 0) grown.1 ∙ draws-append I 0 p.0.trace.symbols grown.0
+            ∙ ap (λ l. l ++ draws_from I (0 + length p.0.trace.symbols) grown.0) before,
+      )
 
   draws-grown : (Says : Question → ℕ → Type 0) (I A B : List ℕ) (s left : Script) → After I B s → Through Says A s left → (more : List Draw) × (drawn left ≡ drawn s ++ more)
   draws-grown Says I [] B s left h e = ([], ap drawn (sym e) ∙ sym (append-nil (drawn s)))

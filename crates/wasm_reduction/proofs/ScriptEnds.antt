@@ -194,7 +194,7 @@ module _ (draw : ℕ → Bool → ℕ) (m : Module) (steps : ℕ) where
     by-fresh g v (Draws wide c) h all e i j =
         let w : ℕ = draw (length g.trace.symbols) wide in
         let same : with_symbol c wide w ≡ v.config =
-          let going : record { config = with_symbol c wide w; trace = record (g.trace) { symbols = g.trace.symbols ++ wide ∷ [] } } ≡ v = cc in ap (λ g. g.config) going in
+        let going : record { config = with_symbol c wide w; trace = record (g.trace) { symbols = g.trace.symbols ++ wide ∷ [] } } ≡ v = cc in ap (λ g. g.config) going in
         sym (ap (λ c. c.answers) same) ∙ h
     by-fresh g v (Asks q w) h all e i j = absurd (no-answer (slice_get A (length g.trace.answers)) refl e)
       where
@@ -211,7 +211,7 @@ module _ (draw : ℕ → Bool → ℕ) (m : Module) (steps : ℕ) where
         let given : v.trace.answers ≡ A = ap (λ x. (trace_of x).answers) (sym e) ∙ out.1 in
         let bounds = bounds-open (nat_lt most_frames (length g.config.callers)) (is_due g.config.frame.here.code g.config.callers && nat_le steps g.config.units) g.trace (follow_by draw (by_list A) g (step numbers m g.config)) v e in
         let by : follow_by draw (by_list A) g (step numbers m g.config) ≡ On v =
-          sym (open-bounds (nat_lt most_frames (length g.config.callers)) (is_due g.config.frame.here.code g.config.callers && nat_le steps g.config.units) g.trace (follow_by draw (by_list A) g (step numbers m g.config)) bounds.0 bounds.1) ∙ e in
+        sym (open-bounds (nat_lt most_frames (length g.config.callers)) (is_due g.config.frame.here.code g.config.callers && nat_le steps g.config.units) g.trace (follow_by draw (by_list A) g (step numbers m g.config)) bounds.0 bounds.1) ∙ e in
         (by-fresh g v (step numbers m g.config) (step-fresh numbers m g.config h) all by (subst IsAnswered (sym by) tt) given, given)
 
     -- the run from here, which has no further answer, doesn't end by an assumption
@@ -280,12 +280,12 @@ module _ (m : Module) (entry : ℕ) (args : List PlainValue) (input : List ℕ) 
       let next : Listed m entry args input steps (A ++ answer_of Assume v ∷ []) (suc p.1.turns) ≡ On (on p.0 Assume v) = past-listed m entry args input steps A p.0 p.1.turns p.1.comes p.4 Assume v p.3 in
       let answer : answer_of Assume v ≡ 0 = ap (answer_of Assume) z in
       let ends : step numbers m (answered p.0.config (answer_of Assume v)) ≡ Ends Assumes =
-        ap (λ n. step numbers m (answered p.0.config n)) answer ∙ (step-assumed numbers m p.0.config).ends p.0.config.answers v p.3.0 in
+      ap (λ n. step numbers m (answered p.0.config n)) answer ∙ (step-assumed numbers m p.0.config).ends p.0.config.answers v p.3.0 in
       let last : Listed m entry args input steps (A ++ answer_of Assume v ∷ []) (suc (suc p.1.turns)) ≡ Over (Ended Assumes) (on p.0 Assume v).trace =
-        next-turn m entry args input steps (by_list (A ++ answer_of Assume v ∷ [])) (Start m entry args input steps) (suc p.1.turns)
-        ∙ ap (λ x. then_follow x (follow numbers (taken input) (by_list (A ++ answer_of Assume v ∷ [])) m steps)) next
-        ∙ answered-turn (taken input) m steps p.0 Assume v p.3 (by_list (A ++ answer_of Assume v ∷ []))
-        ∙ ap (follow_by (taken input) (by_list (A ++ answer_of Assume v ∷ [])) (on p.0 Assume v)) ends in
+      next-turn m entry args input steps (by_list (A ++ answer_of Assume v ∷ [])) (Start m entry args input steps) (suc p.1.turns)
+      ∙ ap (λ x. then_follow x (follow numbers (taken input) (by_list (A ++ answer_of Assume v ∷ [])) m steps)) next
+      ∙ answered-turn (taken input) m steps p.0 Assume v p.3 (by_list (A ++ answer_of Assume v ∷ []))
+      ∙ ap (follow_by (taken input) (by_list (A ++ answer_of Assume v ∷ [])) (on p.0 Assume v)) ends in
       let first = first-of m entry args input steps (A ++ answer_of Assume v ∷ []) rest (comes-of m entry args input steps (A ++ answer_of Assume v ∷ []) rest left.1) (suc (suc p.1.turns)) (Ended Assumes) (on p.0 Assume v).trace last in
       assumed-end (on p.0 Assume v).trace d rest first (ap (λ t. draws_from input 0 t.symbols) p.2 ∙ left.0.first.1)
 

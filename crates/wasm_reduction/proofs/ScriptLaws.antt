@@ -125,10 +125,11 @@ module _ (m : Module) (entry : ℕ) (args : List Argument) (input : List ℕ) (s
           let out = turn-out (taken input) m steps A g r.all (subst IsAnswered (sym is) answered) in
           let both : Over h t ≡ Over halt trace = sym (ap (λ x. then_follow x (follows numbers (taken input) by_value m steps n)) (out.0 ∙ is)) ∙ e in
           let all : trace.answers ≡ A = let same : t ≡ trace = cc in ap (λ t. t.answers) (sym same) ∙ ap (λ x. (trace_of x).answers) (sym is) ∙ out.1 in
-          let over = more-listed A g r (Over halt trace) (is ∙ both) in
-          (Finished outcome (draws_from input 0 trace.symbols),
-          record { turns = over.0; halt = halt; trace = trace; over = over.1; first = (o, refl) },
-          ap (λ l. record { outcome = outcome; draws = draws_from input 0 trace.symbols; answers = l }) (sym all))
+          let over = more-listed A g r (Over halt trace) (is ∙ both) in (
+            Finished outcome (draws_from input 0 trace.symbols),
+            record { turns = over.0; halt = halt; trace = trace; over = over.1; first = (o, refl) },
+            ap (λ l. record { outcome = outcome; draws = draws_from input 0 trace.symbols; answers = l }) (sym all),
+          )
 
       at : ((A : List ℕ) (g : Going ℕ) → Reached m entry args input steps A g → follows numbers (taken input) by_value m steps n g ≡ Over halt trace → Found A outcome trace) →
           (x : Turned ℕ) → follow numbers (taken input) (by_list A) m steps g ≡ x → Found A outcome trace
@@ -140,11 +141,12 @@ module _ (m : Module) (entry : ℕ) (args : List Argument) (input : List ℕ) (s
           let a = turn-asks numbers (taken input) m steps A g q v t is in
           let own : follow numbers (taken input) by_value m steps g ≡ On (on g q v) = a.0.1 by_value ∙ ap (follow_by (taken input) by_value g) a.0.0 in
           let rest = rec (A ++ answer_of q v ∷ []) (on g q v) (past-question m entry args input steps A g r q v a.0)
-            (sym (ap (λ x. then_follow x (follows numbers (taken input) by_value m steps n)) own) ∙ e) in
-          let over = more-listed A g r (Over (Stands q v) t) is in
-          (Asked q v (draws_from input 0 t.symbols) rest.0,
-          (record { turns = over.0; halt = Stands q v; trace = t; over = over.1; first = (refl, refl) }, rest.1),
-          rest.2)
+          (sym (ap (λ x. then_follow x (follows numbers (taken input) by_value m steps n)) own) ∙ e) in
+          let over = more-listed A g r (Over (Stands q v) t) is in (
+            Asked q v (draws_from input 0 t.symbols) rest.0,
+            (record { turns = over.0; halt = Stands q v; trace = t; over = over.1; first = (refl, refl) }, rest.1),
+            rest.2,
+          )
       at rec (Over (Ended x) t) is = done (Ended x) t tt is
       at rec (Over Bound t) is = done Bound t tt is
       at rec (Over Deep t) is = done Deep t tt is
@@ -177,10 +179,11 @@ module _ (m : Module) (entry : ℕ) (args : List Argument) (input : List ℕ) (s
           let listed : L [] 0 ≡ Over a.halt a.trace = at-once m entry args input steps halt trace e [] 0 ∙ a.over in
           let same : trace ≡ a.trace = let both : Over halt trace ≡ Over a.halt a.trace = a.over in cc in
           let empty : [] ≡ a.trace.answers = sym (ap (λ t. t.answers) (sym same) ∙ start-empty (first_config numbers m entry args) halt trace e) in
-          let whole : told (Finished a.outcome (draws_from input 0 a.trace.symbols)) ≡ RunFrom [] a.outcome a.trace = ap (λ l. record { outcome = a.outcome; draws = draws_from input 0 a.trace.symbols; answers = l }) empty in
-          (Finished a.outcome (draws_from input 0 a.trace.symbols),
-          record { turns = 0; halt = a.halt; trace = a.trace; over = listed; first = (a.ends, refl) },
-          whole ∙ a.is)
+          let whole : told (Finished a.outcome (draws_from input 0 a.trace.symbols)) ≡ RunFrom [] a.outcome a.trace = ap (λ l. record { outcome = a.outcome; draws = draws_from input 0 a.trace.symbols; answers = l }) empty in (
+            Finished a.outcome (draws_from input 0 a.trace.symbols),
+            record { turns = 0; halt = a.halt; trace = a.trace; over = listed; first = (a.ends, refl) },
+            whole ∙ a.is,
+          )
 
   -- the bounded run is where the run by its first answers is
   pub bounded-there : (A : List ℕ) (s left : Script) → IsScript m entry args input steps s → After A s left → (n : ℕ) (at : Going ℕ) → L A n ≡ On at → runs_at m entry args input steps n ≡ On at

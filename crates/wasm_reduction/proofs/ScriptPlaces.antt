@@ -8,17 +8,17 @@ use Rattle.wasm_ast.specs.declared.runs.Value.TheVariants.{I32 as I32Value, I64 
 use Rattle.wasm_ast.specs.declared.runs.Outcome.{Outcome}
 use Rattle.wasm_ast.specs.declared.runs.Outcome.TheVariants.{Returns as Returned, Traps as Trapped, Fails as Failed, Assumes as AssumeFailed, Bound as BoundReached, Deep as TooDeep}
 use Rattle.wasm_ast.specs.declared.runs.Draw.{Draw}
-use Rattle.wasm_rules.specs.Words.{Kind, Gives, numbers, taken}
+use Rattle.wasm_rules.specs.Words.{Kind, Gives, numbers, blanks, taken}
 use Rattle.wasm_check.specs.Modules.{IsValid}
 use Rattle.wasm_image.specs.Ready.{IsReady}
 use Rattle.wasm_reduction.specs.Configurations.{FuncRef, ExternRef, Value, I32, I64, Ref, Question, End, Returns, Traps, Fails, Assumes, Stuck}
 use Rattle.wasm_reduction.specs.Instantiation.{first_config}
-use Rattle.wasm_reduction.specs.Images.{value_image, values_image, config_image}
+use Rattle.wasm_reduction.specs.Images.{value_image, values_image, config_image, blank}
 use Rattle.wasm_reduction.specs.Maps.{KeepsOperations}
 use Rattle.wasm_reduction.specs.Widths.{HasNumbers, ArgumentFits}
 use Rattle.wasm_reduction.specs.Runs.{Trace, Going, Halt, Stands, Ended, Bound, Deep, Turned, On, Over, Reply, replied, follow_by, follow, then_follow, follows, runs, by_list, plain_value, outcome_of, draws_from, runs_at}
 use Rattle.wasm_reduction.specs.RunImages.{trace_of, BeginsWith, going_image, halt_image, turned_image}
-use Rattle.wasm_reduction.specs.Scripts.{Script, Finished, Asked, IsFirst, ComesTo, widths, without_number, without_numbers, Alike, StandsAt, blank, SamePlace}
+use Rattle.wasm_reduction.specs.Scripts.{Script, Finished, Asked, IsFirst, ComesTo, widths, without_number, without_numbers, Alike, StandsAt, SamePlace}
 use Rattle.wasm_reduction.proofs.WideStarts.{code-in-range}
 use Rattle.wasm_reduction.proofs.MapRuns.{runs-image}
 use Rattle.wasm_reduction.proofs.ListedRuns.{begins-empty, begins-unasked, all-given, follows-ask, follows-within, stays-over, IsAsking}
@@ -44,14 +44,17 @@ module _ (m : Module) (entry : ℕ) (args : List PlainValue) (input : List ℕ) 
       at (On g) is e =
           let a = follows-ask numbers (taken input) m steps A n g q v trace e in
           let empty : g.trace.answers ≡ [] = begins-empty (first_config numbers m entry args) g is in
-          let within : BeginsWith A a.at.trace.answers = subst (λ x. BeginsWith A (trace_of x).answers) a.comes (follows-within numbers (taken input) m steps A a.turns g (subst (BeginsWith A) (sym empty) (A, refl))) in
-          (a.at,
-          record {
-            turns = a.turns;
-            comes = ap (λ x. then_follow x (follows numbers (taken input) (by_list A) m steps a.turns)) is ∙ a.comes;
-            stands = a.asks.1 (by_list A) ∙ ap (follow_by (taken input) (by_list A) a.at) a.asks.0 ∙ ap (λ o. replied a.at q v o) a.none;
-          },
-          a.given, a.asks, all-given A a.at.trace.answers within a.none)
+          let within : BeginsWith A a.at.trace.answers = subst (λ x. BeginsWith A (trace_of x).answers) a.comes (follows-within numbers (taken input) m steps A a.turns g (subst (BeginsWith A) (sym empty) (A, refl))) in (
+            a.at,
+            record {
+              turns = a.turns;
+              comes = ap (λ x. then_follow x (follows numbers (taken input) (by_list A) m steps a.turns)) is ∙ a.comes;
+              stands = a.asks.1 (by_list A) ∙ ap (follow_by (taken input) (by_list A) a.at) a.asks.0 ∙ ap (λ o. replied a.at q v o) a.none;
+            },
+            a.given,
+            a.asks,
+            all-given A a.at.trace.answers within a.none,
+          )
 
   -- after one turn more the run is over
   pub stands-over : (A : List ℕ) (q : Question) (v : ℕ) (at : Going ℕ) (s : StandsAt m entry args input steps A q v at) → L A (suc s.turns) ≡ Over (Stands q v) at.trace
@@ -79,17 +82,6 @@ module _ (m : Module) (entry : ℕ) (args : List PlainValue) (input : List ℕ) 
 
 -- ---- words that mean nothing
 
-abbrev pub blanks : Kind (Unit {0})
-blanks = record {
-  number = λ n. tt;
-  unary = λ op a. tt;
-  binary = λ op a b. tt;
-  choose = λ wide c a b. tt;
-  byte = λ a i. tt;
-  join = λ wide bytes. tt;
-  symbol = λ k wide. tt;
-}
-
 abbrev Any : ℕ → ℕ → Type 0
 Any bits n = Unit {0}
 
@@ -103,8 +95,9 @@ numbers-any = record {
   join = λ wide bytes h i. tt;
 }
 
-keeps-blank : KeepsOperations Any numbers blanks blank
-keeps-blank = record {
+-- words can be forgotten
+pub keeps-blank : {V : Type 0} (Has : ℕ → V → Type 0) (K : Kind V) → KeepsOperations Has K blanks blank
+keeps-blank Has K = record {
   number = λ n. refl;
   unary = λ op a u h. refl;
   binary = λ op a b u h k. refl;
@@ -159,8 +152,8 @@ module _ (m : Module) (entry : ℕ) (args : List PlainValue) (steps : ℕ) (fit 
   By input n = Listed m entry args input steps A n
 
   image : (input : List ℕ) (n : ℕ) → runs blanks (λ k wide. tt) (by_list A) m entry args steps n ≡ turned_image blank (By input n)
-  image input n = runs-image blank (taken input) (λ k wide. tt) (λ k wide. refl) (by_list A) (by_list A) (λ q x given. refl) Any numbers blanks numbers-any keeps-blank m (code-in-range m fit) steps (λ k wide. tt)
-    fit valid ready entry args arguments n
+  image input n = runs-image blank (taken input) (λ k wide. tt) (λ k wide. refl) (by_list A) (by_list A) (λ q x given. refl) Any numbers blanks numbers-any (keeps-blank Any numbers) m (code-in-range m fit) steps (λ k wide. tt)
+      fit valid ready entry args arguments n
 
   -- two inputs that are answered alike
   pub same-images : (I O : List ℕ) (n : ℕ) → turned_image blank (By I n) ≡ turned_image blank (By O n)

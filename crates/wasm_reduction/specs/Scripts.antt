@@ -1,16 +1,15 @@
 -- Scripts: bounded runs as plain data. A script has the questions of a run in order, each with the number that it asks about,
 -- and then the run's end; and with each of them all numbers that the run has drawn for its symbols by then.
-use Rattle.std.specs.Prelude.{◌≡◌, ◌≢◌, ℕ, Bool, List, [], ◌∷◌, ◌++◌, map}
+use Rattle.std.specs.Prelude.{◌≡◌, ◌≢◌, ℕ, Bool, List, [], ◌∷◌, ◌++◌, map, Some}
 use Rattle.wasm_ast.specs.declared.modules.Module.{Module}
 use Rattle.wasm_ast.specs.declared.runs.Value.{Value as PlainValue}
 use Rattle.wasm_ast.specs.declared.runs.Value.TheVariants.{I32 as I32Value, I64 as I64Value, Func as FuncValue, Extern as ExternValue}
 use Rattle.wasm_ast.specs.declared.runs.Outcome.{Outcome}
 use Rattle.wasm_ast.specs.declared.runs.Outcome.TheVariants.{Returns as Returned, Traps as Trapped, Fails as Failed, Assumes as AssumeFailed, Bound as BoundReached, Deep as TooDeep}
 use Rattle.wasm_ast.specs.declared.runs.Draw.{Draw}
-use Rattle.std.specs.Prelude.{Some}
 use Rattle.wasm_rules.specs.Words.{numbers, taken}
 use Rattle.wasm_reduction.specs.Configurations.{Question, Test, Pick, Assume}
-use Rattle.wasm_reduction.specs.Images.{config_image}
+use Rattle.wasm_reduction.specs.Images.{config_image, blank}
 use Rattle.wasm_reduction.specs.Runs.{Trace, Going, Halt, Stands, Turned, On, Over, follow, answer_of, by_list, outcome_of, draws_from, runs, Run}
 
 -- What a run does from some place on: it ends; or it asks a question of a number, which answers it, and does the rest.
@@ -133,8 +132,5 @@ pub record StandsAt (m : Module) (entry : ℕ) (args : List PlainValue) (input :
   pub stands : follow numbers (taken input) (by_list answers) m steps at ≡ Over (Stands q v) at.trace
 
 -- both are the same but for their words
-abbrev pub blank : {W : Type 0} → W → Unit {0}
-blank w = tt
-
 abbrev pub SamePlace : Going ℕ → Going ℕ → Type 0
 SamePlace here there = (config_image blank here.config ≡ config_image blank there.config) × (here.trace ≡ there.trace)
