@@ -3,7 +3,7 @@ pub mod SameLemmas
 mod OperandLemmas
 mod OperationRules
 pub mod RuleLemmas
-mod SymbolLemmas
+pub mod SymbolLemmas
 pub mod KindLemmas
 pub mod ListLemmas
 pub mod GraphLemmas

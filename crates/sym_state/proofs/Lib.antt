@@ -4,3 +4,6 @@ pub mod ExactLemmas
 pub mod ValueLemmas
 pub mod PlaceLemmas
 pub mod SideLemmas
+pub mod ExampleNodes
+pub mod DrawnLemmas
+pub mod LeastLemmas

@@ -1,14 +1,14 @@
 -- Places of runs, and what answers make of them.
-use Rattle.std.proofs.Common.{◌≡◌, ℕ, suc, ◌+◌, List, [], ◌∷◌, ◌++◌, length, refl, sym, ap, ◌∙◌, subst, arith, length-append}
-use Rattle.std.specs.Prelude.{◌↔◌, Bool, true, false, Some, None, Option, slice_get}
-use Rattle.wasm_reduction.specs.Configurations.{Config, Question, Asks}
-use Rattle.wasm_reduction.specs.Steps.{step, answered}
-use Rattle.wasm_reduction.specs.Runs.{Trace, Going, Halt, Stands, Ended, Bound, Deep, Turned, On, Over, by_list, runs, started, follow, follow_by, follows, replied, then_follow}
+use Rattle.std.proofs.Common.{◌≡◌, ℕ, suc, ◌+◌, List, [], ◌∷◌, ◌++◌, length, refl, sym, ap, ◌∙◌, subst, length-append}
+use Rattle.std.specs.Prelude.{Some, slice_get}
+use Rattle.wasm_reduction.specs.Configurations.{Question}
+use Rattle.wasm_reduction.specs.Steps.{answered}
+use Rattle.wasm_reduction.specs.Runs.{Going, Stands, Ended, Bound, Deep, Turned, On, Over, by_list, runs, started, follow, follow_by, follows, replied, then_follow}
 use Rattle.wasm_reduction.specs.RunImages.{IsAnswered, trace_of}
 use Rattle.wasm_reduction.proofs.ListedRuns.{follows-next, runs-longer, turn-asks}
 use Rattle.bv_terms.specs.Terms.{Term}
 use Rattle.bv_terms.specs.Making.{terms}
-use Rattle.sym_state.specs.Nodes.{Invocation, CanExplore, Node, IsMember}
+use Rattle.sym_state.specs.Nodes.{Invocation, CanExplore, Node}
 use Rattle.sym_state.specs.States.{Stage, Running, Unbegun, Path, over_terms, IsAt, units_of, IsPlace, IsAtQuestion, answered_stage}
 use Rattle.sym_state.proofs.ValueLemmas.{place-values}
 
@@ -46,7 +46,7 @@ get-last [] a = refl
 get-last (x ∷ A) a = get-last A a
 
 module _ (i : Invocation) where
-  turn-next : (A : List ℕ) (turns : ℕ) → over i A (suc turns) ≡ then_follow (over i A turns) (follow terms terms.symbol (by_list A) i.«module» i.steps)
+  pub turn-next : (A : List ℕ) (turns : ℕ) → over i A (suc turns) ≡ then_follow (over i A turns) (follow terms terms.symbol (by_list A) i.«module» i.steps)
   turn-next A turns = go (started terms i.«module» i.entry i.args)
     where
       go : (x : Turned Term) → then_follow x (follows terms terms.symbol (by_list A) i.«module» i.steps (suc turns)) ≡ then_follow (then_follow x (follows terms terms.symbol (by_list A) i.«module» i.steps turns)) (follow terms terms.symbol (by_list A) i.«module» i.steps)

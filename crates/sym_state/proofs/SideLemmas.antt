@@ -1,10 +1,9 @@
 -- What the calls make of a path stands for the next node.
-use Rattle.std.proofs.Common.{◌≡◌, ◌≢◌, ℕ, suc, List, [], ◌∷◌, ◌++◌, refl, sym, ap, ◌∙◌, subst}
+use Rattle.std.proofs.Common.{◌≡◌, ◌≢◌, ℕ, suc, List, [], ◌∷◌, ◌++◌, refl, sym, ap, subst}
 use Rattle.std.specs.Prelude.{◌↔◌, Bool, true, false}
 use Rattle.wasm_reduction.specs.Configurations.{Question, Test, Pick, Assume}
-use Rattle.wasm_reduction.specs.Runs.{Over, Stands}
 use Rattle.wasm_reduction.specs.RunImages.{trace_of}
-use Rattle.bv_terms.specs.Terms.{Term, value_of}
+use Rattle.bv_terms.specs.Terms.{Term}
 use Rattle.sym_state.specs.Nodes.{CanExplore, Condition, AreMet, IsMet, Node, IsMember}
 use Rattle.sym_state.specs.NextNodes.{bit, MembersAsk, MembersAnswer, IsOther, IsExact, gone_on, assumed, test_side, pick_side}
 use Rattle.sym_state.specs.States.{Path, over_terms, IsPlace, Follows, FollowsBefore, IsAtQuestion, sided, supposed, resumed}

@@ -1,12 +1,12 @@
 -- The value at an input, and the run over terms at each member.
-use Rattle.std.proofs.Common.{◌≡◌, ℕ, List, [], ◌∷◌, ◌++◌, refl, sym, ap, ◌∙◌, subst}
-use Rattle.std.specs.Prelude.{Some, None, Option}
+use Rattle.std.proofs.Common.{◌≡◌, ℕ, List, [], refl, ap, ◌∙◌}
+use Rattle.std.specs.Prelude.{Some, None}
 use Rattle.int_ops.specs.Operators.{result_bits}
 use Rattle.int_ops.specs.Bytes.{joined}
 use Rattle.wasm_rules.specs.Words.{bits_where, numbers, taken}
 use Rattle.wasm_reduction.specs.Configurations.{Question}
 use Rattle.wasm_reduction.specs.Maps.{KeepsOperations}
-use Rattle.wasm_reduction.specs.Runs.{Trace, Halt, Stands, Ended, Bound, Deep, Turned, On, Over, by_list, runs, outcome_of}
+use Rattle.wasm_reduction.specs.Runs.{Trace, Stands, Ended, Bound, Deep, Turned, On, Over, by_list, runs}
 use Rattle.wasm_reduction.specs.RunImages.{IsAnswered, KeepsSymbols, BeginsWith, turned_image}
 use Rattle.wasm_reduction.specs.Scripts.{Script, Finished, Asked, IsFirst, Passes, answers_in, told}
 use Rattle.wasm_reduction.proofs.WideStarts.{code-in-range}
@@ -18,7 +18,7 @@ use Rattle.bv_terms.specs.Terms.{Term, Symbol, Unary, Binary, Choose, Byte, Join
 use Rattle.bv_terms.specs.Making.{terms}
 use Rattle.bv_terms.proofs.RuleLemmas.{made-keeps}
 use Rattle.bv_terms.proofs.KindLemmas.{has, some, join-width, values_of-bytes_from, terms-give}
-use Rattle.sym_state.specs.Nodes.{Invocation, CanExplore, Node, IsMemberAt, IsMember}
+use Rattle.sym_state.specs.Nodes.{Invocation, CanExplore, Node, IsMember}
 use Rattle.sym_state.specs.NextNodes.{Begins, MembersAsk}
 use Rattle.sym_state.specs.States.{over_terms, run_at}
 
@@ -46,7 +46,7 @@ module _ (n : Node) (can : CanExplore n.invocation) where
   i = n.invocation
 
   -- the run over numbers that has the same answers
-  listed : (I : List ℕ) (turns : ℕ) → runs numbers (taken I) (by_list n.answers) n.invocation.«module» n.invocation.entry n.invocation.args n.invocation.steps turns ≡ turned_image (value_of I) (over_terms n turns)
+  pub listed : (I : List ℕ) (turns : ℕ) → runs numbers (taken I) (by_list n.answers) n.invocation.«module» n.invocation.entry n.invocation.args n.invocation.steps turns ≡ turned_image (value_of I) (over_terms n turns)
   listed I turns =
       runs-image (value_of I) terms.symbol (taken I) (keeps-symbols I).value (by_list n.answers) (by_list n.answers) (λ q x given. refl) HasBits terms numbers terms-give (keeps-operations I) i.«module» (code-in-range i.«module» can.has_numbers)
       i.steps (keeps-symbols I).has can.has_numbers can.can.valid can.can.ready i.entry i.args can.fitting turns

@@ -2,11 +2,12 @@
 use Rattle.std.specs.Prelude.{◌≡◌, ◌↔◌, ℕ, suc, ◌+◌, Bool, true, List, [], ◌∷◌, ◌++◌, length, slice_index}
 use Rattle.wasm_reduction.specs.Configurations.{Config, End, Question}
 use Rattle.wasm_reduction.specs.Steps.{answered}
-use Rattle.wasm_reduction.specs.Runs.{Turned, On, Over, Ended, Bound, Deep, Stands, by_list, runs, runs_at}
+use Rattle.wasm_reduction.specs.Runs.{Turned, On, Over, Ended, Bound, Deep, Stands, by_list, draws_from, runs, runs_at}
 use Rattle.wasm_reduction.specs.RunImages.{turned_image, trace_of}
-use Rattle.bv_terms.specs.Terms.{Term, value_of}
+use Rattle.wasm_reduction.specs.Scripts.{as_input}
+use Rattle.bv_terms.specs.Terms.{Term, HasBits, HasSymbols, value_of}
 use Rattle.bv_terms.specs.Making.{terms}
-use Rattle.sym_state.specs.Nodes.{Condition, AreMet, Node, IsMember, IsLeastOf}
+use Rattle.sym_state.specs.Nodes.{Condition, AreMet, Node, IsMember, IsAtMost, IsLeastOf}
 use Rattle.sym_state.specs.NextNodes.{bit}
 
 -- ---- states of paths
@@ -34,6 +35,10 @@ pub record Path : Type 0 where
 -- the run over terms that has these answers, and no more, after so many turns
 abbrev pub over_terms : Node → ℕ → Turned Term
 over_terms n turns = runs terms terms.symbol (by_list n.answers) n.invocation.«module» n.invocation.entry n.invocation.args n.invocation.steps turns
+
+-- a term of a width, whose symbols are among these draws
+abbrev pub HasOver : List Bool → ℕ → Term → Type 0
+HasOver draws bits t = HasBits bits t × HasSymbols draws t
 
 -- the bounded run at an input after so many turns
 abbrev pub run_at : Node → List ℕ → ℕ → Turned ℕ
@@ -84,6 +89,17 @@ SameInput xs ys = (k : ℕ) → slice_index xs k ≡ slice_index ys k
 -- The carried input is the least of the node.
 abbrev pub Least : Node → Path → Type 0
 Least n p = (draws : List ℕ) × IsLeastOf n draws × SameInput p.least draws
+
+-- the numbers that these symbols take from an input
+abbrev pub numbers_taken : List ℕ → List Bool → List ℕ
+numbers_taken input draws = as_input (draws_from input 0 draws)
+
+-- An input over these draws that meets the conditions: it has their numbers and no others, and they are at most those of each
+-- other input that does.
+pub record IsLeastGiven (conditions : List Condition) (draws : List Bool) (input : List ℕ) : Type 0 where
+  pub meets : AreMet input conditions
+  pub over : SameInput input (numbers_taken input draws)
+  pub least : (other : List ℕ) → AreMet other conditions → IsAtMost (numbers_taken input draws) (numbers_taken other draws)
 
 -- ---- before an answer
 

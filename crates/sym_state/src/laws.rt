@@ -3,11 +3,12 @@ ghost use Rattle.std.specs.Prelude.{◌≡◌, ◌≢◌, ℕ, Bool, true, false
 ghost use Rattle.wasm_reduction.specs.Configurations.{Question, Test, Pick, Assume};
 ghost use Rattle.wasm_rules.specs.Words.{numbers, taken};
 ghost use Rattle.wasm_reduction.specs.Maps.{KeepsOperations};
-ghost use Rattle.wasm_reduction.specs.Runs.{Trace, Over, Stands};
-ghost use Rattle.wasm_reduction.specs.RunImages.{IsAnswered, KeepsSymbols, turned_image};
+ghost use Rattle.wasm_reduction.specs.Runs.{Going, On, Over, Stands, Trace};
+ghost use Rattle.wasm_reduction.specs.Widths.{HasWidths};
+ghost use Rattle.wasm_reduction.specs.RunImages.{BeginsWith, IsAnswered, KeepsSymbols, turned_image};
 ghost use Rattle.bv_terms.specs.Terms.{HasBits, Term, value_of};
 ghost use Rattle.bv_terms.specs.Making.{terms};
-ghost use Rattle.sym_state.specs.States.{Follows, FollowsBefore, IsAtQuestion, Path, over_terms, resumed, run_at, sided, supposed};
+ghost use Rattle.sym_state.specs.States.{Follows, FollowsBefore, HasOver, IsAtQuestion, IsLeastGiven, Least, Path, over_terms, resumed, run_at, sided, supposed};
 ghost use Rattle.sym_state.specs.Nodes.{AreMet, CanExplore, Invocation, IsMember, IsMet, Node, root};
 ghost use Rattle.sym_state.specs.NextNodes.{IsExact, IsOther, MembersAnswer, MembersAsk, assumed, gone_on, pick_side, test_side};
 
@@ -59,4 +60,18 @@ pub fn sides_stand_for_their_nodes()
 pub fn answers_lead_on()
     ensures before { (n m : Node) (q : Question) (t : Term) (p : Path) (answer : ℕ) → CanExplore n.invocation → m.invocation ≡ n.invocation → m.answers ≡ n.answers ++ answer ∷ [] → FollowsBefore n m q t p → Follows m (resumed p answer) }
     ensures goes_on { (n : Node) (q : Question) (t : Term) (p : Path) (answer : ℕ) → CanExplore n.invocation → (h : Follows n p) → IsAtQuestion n h.place.turns q t → MembersAnswer n q t answer → (q ≡ Assume → answer ≢ 0) → Follows (gone_on n answer) (resumed p answer) }
+{}
+
+/// The words of a run over terms have their widths, and their symbols are among those that the run has drawn; so does a term
+/// that it asks about.
+pub fn terms_are_over_the_draws()
+    ensures words { (n : Node) (turns : ℕ) (g : Going Term) → CanExplore n.invocation → over_terms n turns ≡ On g → HasWidths (HasOver g.trace.symbols) g.config }
+    ensures asks { (n : Node) (q : Question) (t : Term) (turns : ℕ) (trace : Trace) → CanExplore n.invocation → over_terms n turns ≡ Over (Stands q t) trace → HasOver trace.symbols 32 t }
+{}
+
+/// Where the input that a path carries is the least that meets its conditions, over the symbols that it has drawn, it is the least
+/// of the path's node: what its members draw before their next question or their end. So is it before an answer.
+pub fn least_inputs_are_least()
+    ensures follows { (n : Node) (p : Path) → CanExplore n.invocation → Follows n p → IsLeastGiven p.conditions p.draws p.least → Least n p }
+    ensures before { (n m : Node) (q : Question) (t : Term) (p : Path) → CanExplore n.invocation → m.invocation ≡ n.invocation → BeginsWith m.answers n.answers → FollowsBefore n m q t p → IsLeastGiven p.conditions p.draws p.least → Least m p }
 {}

@@ -5,6 +5,7 @@
 // definitions.
 #![tactic(auto)]
 
+pub mod examples;
 pub mod laws;
 #[cfg(test)]
 mod tests;
