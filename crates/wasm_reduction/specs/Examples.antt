@@ -322,7 +322,7 @@ abbrev pub fixed_by : List Instr → GlobalDef
 fixed_by code = record { ty = record { kind = I32Type; mutable = false }; init = record { seqs = code ∷ [] } }
 
 pub record InstantiationExamples : Type 0 where
-  pub global_by_one_before : Runs (with_globals (fixed_by (Const32 40 ∷ []) ∷ fixed_by (GlobalGet 0 ∷ Const32 2 ∷ Num 0x6A ∷ []) ∷ []) 1) (returns (I32 42 ∷ []) [])
+  pub global_by_one_before : RunOf (with_globals (fixed_by (Const32 40 ∷ []) ∷ fixed_by (GlobalGet 0 ∷ Const32 2 ∷ Num 0x6A ∷ []) ∷ []) 1) (returns (I32 42 ∷ []) [])
   pub global_by_one_after : first_globals (with_globals (fixed_by (GlobalGet 1 ∷ []) ∷ fixed_by (Const32 1 ∷ []) ∷ []) 0) ≡ None
   pub global_by_itself : first_globals (with_globals (fixed_by (GlobalGet 0 ∷ []) ∷ []) 0) ≡ None
   pub product_wraps : offset_in [] (record { seqs = (Const32 65536 ∷ Const32 65536 ∷ Num 0x6C ∷ []) ∷ [] }) ≡ Some 0
@@ -330,12 +330,12 @@ pub record InstantiationExamples : Type 0 where
   pub wide_difference : value_of [] (record { seqs = (Const64 5 ∷ Const64 7 ∷ Const64 3 ∷ Num 0x7E ∷ Num 0x7D ∷ []) ∷ [] }) ≡ Some (I64Value (2 ^ 64 - 16))
   pub operand_left_over : value_of [] (record { seqs = (Const32 1 ∷ Const32 2 ∷ []) ∷ [] }) ≡ None
   pub operand_lacks : value_of [] (record { seqs = (Const32 1 ∷ Num 0x6A ∷ []) ∷ [] }) ≡ None
-  pub element_at_the_end : Runs (active_element 1) (returns (I32 1 ∷ []) [])
-  pub element_past_the_end : Runs (active_element 2) (ends (Traps Table) [])
+  pub element_at_the_end : RunOf (active_element 1) (returns (I32 1 ∷ []) [])
+  pub element_past_the_end : RunOf (active_element 2) (ends (Traps Table) [])
   pub elements_first : RunOf nothing_fits (ends (Traps Table) [])
-  pub then_data : Runs (record nothing_fits { elems = [] }) (ends (Traps Memory) [])
-  pub then_start : Runs (record nothing_fits { elems = []; segments = [] }) (ends (Traps Unreachable) [])
-  pub active_segment_is_dropped : Runs (record (active_element 1) { funcs = function_of 0 ((Const32 0 ∷ Const32 0 ∷ Const32 1 ∷ TableInit 0 0 ∷ []) ∷ []) ∷ [] }) (ends (Traps Table) (1 ∷ []))
+  pub then_data : RunOf (record nothing_fits { elems = [] }) (ends (Traps Memory) [])
+  pub then_start : RunOf (record nothing_fits { elems = []; segments = [] }) (ends (Traps Unreachable) [])
+  pub active_segment_is_dropped : RunOf (record (active_element 1) { funcs = function_of 0 ((Const32 0 ∷ Const32 0 ∷ Const32 1 ∷ TableInit 0 0 ∷ []) ∷ []) ∷ [] }) (ends (Traps Table) (1 ∷ []))
   pub start_before_export : IsRun (starts Nop) 0 [] [] 4 (returns (I32 9 ∷ []) [])
   pub units_of_both : IsRun (starts Nop) 0 [] [] 3 (ends Bound [])
   pub start_traps : RunOf (starts UnreachableInstr) (ends (Traps Unreachable) [])
