@@ -13,14 +13,14 @@ use Rattle.wasm_machine.specs.declared.next.Next.TheVariants.{Goes as CodeGoes, 
 use Rattle.wasm_machine.specs.declared.next.Question.TheVariants.{Pick as CodePick}
 use Rattle.wasm_machine.specs.declared.next.End.TheVariants.{Stuck as CodeStuck}
 use Rattle.wasm_machine.specs.declared.progress.Progress.{Progress}
-use Rattle.wasm_machine.specs.declared.progress.Progress.TheVariants.{Says}
-use Rattle.wasm_machine.specs.States.{State}
-use Rattle.wasm_machine.specs.Moves.{pushed, without, replaced, own, passed}
+use Rattle.wasm_machine.specs.declared.progress.Progress.TheVariants.{Stops}
+use Rattle.wasm_machine.specs.States.{State, own, passed}
+use Rattle.wasm_machine.specs.code.Moves.{pushed, without, replaced}
 use Rattle.wasm_machine.specs.Values.{value, ValueHeld}
 use Rattle.wasm_machine.specs.Configurations.{config_of, image, configuration}
 use Rattle.wasm_machine.specs.Acts.{Sane, Acts, ActsOn}
-use Rattle.wasm_machine.specs.Comings.{said, came_to, SaidHeld, ProgressHeld}
-use Rattle.wasm_machine.proofs.Steps.{lies-passed}
+use Rattle.wasm_machine.specs.code.InstructionProgress.{said, came_to, SaidHeld, ProgressHeld}
+use Rattle.wasm_machine.proofs.Steps.{well_formed-passed}
 use Rattle.wasm_machine.proofs.Images.{image-kept, sane-kept, sane-passed, sane-pushed, sane-without}
 use Rattle.wasm_machine.proofs.ActLaws.{acting, put-config, push-config, drop-config, ask-acts}
 use Rattle.wasm_machine.proofs.CellLemmas.{map-kept, All-kept}
@@ -38,7 +38,7 @@ module _ {A V M : Type 0} (H : A → V → Type 0) (means : A → V → M) (K : 
   said-acts (CodeAsks q w) held f = ask-acts H means K m i a a' kept s q w sane held f
   said-acts (CodeEnds e) held f = record { gives = f; after = held }
 
-  pub came-acts : {P : Type 0} (x : Progress V P) (n : CodeNext V) (go : List M → P → Next M) → ProgressHeld (H a') x → x ≡ Says n → ((b : List M) → acting means K m i a s b ≡ came_to (means a') (go b) x) → Acts H means K m i a s a' s n
+  pub came-acts : {P : Type 0} (x : Progress V P) (n : CodeNext V) (go : List M → P → Next M) → ProgressHeld (H a') x → x ≡ Stops n → ((b : List M) → acting means K m i a s b ≡ came_to (means a') (go b) x) → Acts H means K m i a s a' s n
   came-acts x n go held is f = said-acts n (subst (ProgressHeld (H a')) is held) (λ b. f b ∙ ap (came_to (means a') (go b)) is)
 
   -- ---- the same, and more, of those that read or write the memory
@@ -49,7 +49,7 @@ module _ {A V M : Type 0} (H : A → V → Type 0) (means : A → V → M) (K : 
   said-acts-on cells each (CodeAsks q w) held f = record { gives = f; after = (sane-kept H means a a' kept s sane, refl, held); bytes = (by_recursion (H a') cells (All-kept H means a a' cells kept each), refl) }
   said-acts-on cells each (CodeEnds e) held f = record { gives = f; after = held; bytes = tt }
 
-  pub came-acts-on : {P : Type 0} (cells : List V) → All (H a) cells → (x : Progress V P) (n : CodeNext V) (go : P → Next M) → ProgressHeld (H a') x → x ≡ Says n → acting means K m i a s (map (means a) cells) ≡ came_to (means a') go x → ActsOn H means K m i a s cells a' s cells n
+  pub came-acts-on : {P : Type 0} (cells : List V) → All (H a) cells → (x : Progress V P) (n : CodeNext V) (go : P → Next M) → ProgressHeld (H a') x → x ≡ Stops n → acting means K m i a s (map (means a) cells) ≡ came_to (means a') go x → ActsOn H means K m i a s cells a' s cells n
   came-acts-on cells each x n go held is f = said-acts-on cells each n (subst (ProgressHeld (H a')) is held) (f ∙ ap (came_to (means a') go) is)
 
   pub stuck-acts-on : (cells : List V) → All (H a) cells → acting means K m i a s (map (means a) cells) ≡ Ends Stuck → ActsOn H means K m i a s cells a' s cells (CodeEnds CodeStuck)
@@ -91,7 +91,7 @@ module _ {A V M : Type 0} (H : A → V → Type 0) (means : A → V → M) (K : 
       let left : Sane H a (without n (passed s)) = sane-without H a (passed s) n (sane-passed H a s sane) long in record {
         gives = f ∙ ap (λ c. Goes c) (sym (ap (λ t. configuration (means a') m (map (means a') now) t) e
             ∙ ap (λ p. config_of m (map (means a') now) p) (image-kept H means a a' kept (without n (passed s)) left)
-            ∙ ap (λ c. with_memory c (map (means a') now)) (drop-config (means a) m (map (means a) cells) (passed s) n (lies-passed s sane.lies) long)));
+            ∙ ap (λ c. with_memory c (map (means a') now)) (drop-config (means a) m (map (means a) cells) (passed s) n (well_formed-passed s sane.well_formed) long)));
         after = subst (λ t. Sane H a' t) (sym e) (sane-kept H means a a' kept (without n (passed s)) left);
         bytes = by_recursion (H a') now each;
       }

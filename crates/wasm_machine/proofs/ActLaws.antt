@@ -11,13 +11,13 @@ use Rattle.wasm_machine.specs.declared.values.Value.{Value as CodeValue}
 use Rattle.wasm_machine.specs.declared.next.Question.{Question as CodeQuestion}
 use Rattle.wasm_machine.specs.declared.next.End.TheVariants.{Traps as CodeTraps, Stuck as CodeStuck}
 use Rattle.wasm_machine.specs.declared.next.Next.TheVariants.{Goes as CodeGoes, Asks as CodeAsks, Ends as CodeEnds}
-use Rattle.wasm_machine.specs.States.{State}
-use Rattle.wasm_machine.specs.Moves.{pushed, without, replaced, own, passed}
+use Rattle.wasm_machine.specs.States.{State, own, passed}
+use Rattle.wasm_machine.specs.code.Moves.{pushed, without, replaced}
 use Rattle.wasm_machine.specs.Values.{question, value, ValueHeld}
-use Rattle.wasm_machine.specs.Configurations.{Lies, config_of, image, configuration}
+use Rattle.wasm_machine.specs.Configurations.{IsWellFormed, config_of, image, configuration}
 use Rattle.wasm_machine.specs.Acts.{Sane, Acts}
-use Rattle.wasm_machine.proofs.Steps.{config_of-pushed, config_of-without, config_of-replaced, lies-passed}
-use Rattle.wasm_machine.proofs.Images.{lies-image, image-pushed, image-without, image-replaced, image-kept, length-own-image, sane-kept, sane-passed, sane-pushed, sane-without}
+use Rattle.wasm_machine.proofs.Steps.{config_of-pushed, config_of-without, config_of-replaced, well_formed-passed}
+use Rattle.wasm_machine.proofs.Images.{well_formed-image, image-pushed, image-without, image-replaced, image-kept, length-own-image, sane-kept, sane-passed, sane-pushed, sane-without}
 
 -- what the reduction says of the instruction that is next in the state s
 abbrev pub acting : {A V M : Type 0} → (A → V → M) → Kind M → Module → Instr → A → State (CodeValue V) → List M → Next M
@@ -28,17 +28,17 @@ pub put-config : {A V M : Type 0} (H : A → V → Type 0) (means : A → V → 
     configuration (means a') m b (replaced n v p) ≡ holding (configuration (means a) m b p) (made ∷ drop n (own (image (means a) p)))
 put-config H means m b a a' k p n v made h long e =
     ap (λ s. config_of m b s) (image-replaced (means a') n v p ∙ ap (λ s. replaced n (value (means a') v) s) (image-kept H means a a' k p h) ∙ ap (λ x. replaced n x (image (means a) p)) e) ∙
-    config_of-replaced m b (image (means a) p) n made (lies-image (means a) p h.lies) (rw (length-own-image (means a) p) long)
+    config_of-replaced m b (image (means a) p) n made (well_formed-image (means a) p h.well_formed) (rw (length-own-image (means a) p) long)
 
 pub push-config : {A V M : Type 0} (H : A → V → Type 0) (means : A → V → M) (m : Module) (b : List M) (a a' : A) → Kept H means a a' → (p : State (CodeValue V)) (v : CodeValue V) (made : Value M) → Sane H a p → value (means a') v ≡ made →
     configuration (means a') m b (pushed v p) ≡ holding (configuration (means a) m b p) (made ∷ own (image (means a) p))
 push-config H means m b a a' k p v made h e =
     ap (λ s. config_of m b s) (image-pushed (means a') v p ∙ ap (λ s. pushed (value (means a') v) s) (image-kept H means a a' k p h) ∙ ap (λ x. pushed x (image (means a) p)) e) ∙
-    config_of-pushed m b (image (means a) p) made (lies-image (means a) p h.lies)
+    config_of-pushed m b (image (means a) p) made (well_formed-image (means a) p h.well_formed)
 
-pub drop-config : {V M : Type 0} (h : V → M) (m : Module) (b : List M) (p : State (CodeValue V)) (n : ℕ) → Lies p → n ≤ length (own p) →
+pub drop-config : {V M : Type 0} (h : V → M) (m : Module) (b : List M) (p : State (CodeValue V)) (n : ℕ) → IsWellFormed p → n ≤ length (own p) →
     configuration h m b (without n p) ≡ holding (configuration h m b p) (drop n (own (image h p)))
-drop-config h m b p n l long = ap (λ s. config_of m b s) (image-without h n p) ∙ config_of-without m b (image h p) n (lies-image h p l) (rw (length-own-image h p) long)
+drop-config h m b p n l long = ap (λ s. config_of m b s) (image-without h n p) ∙ config_of-without m b (image h p) n (well_formed-image h p l) (rw (length-own-image h p) long)
 
 -- ---- the instruction goes on
 
@@ -67,7 +67,7 @@ pub drop-acts : {A V M : Type 0} (H : A → V → Type 0) (means : A → V → M
     ((b : List M) → acting means K m i a s b ≡ Goes (holding (configuration (means a) m b (passed s)) (drop n (own (image (means a) s))))) →
     Acts H means K m i a s a t CodeGoes
 drop-acts H means K m i a s p t n h long d e0 f = let e : t ≡ without n (passed s) = e0 ∙ ap (λ p. without n p) d in record {
-  gives = λ b. f b ∙ ap (λ c. Goes c) (sym (ap (λ t. configuration (means a) m b t) e ∙ drop-config (means a) m b (passed s) n (lies-passed s h.lies) long));
+  gives = λ b. f b ∙ ap (λ c. Goes c) (sym (ap (λ t. configuration (means a) m b t) e ∙ drop-config (means a) m b (passed s) n (well_formed-passed s h.well_formed) long));
   after = subst (λ t. Sane H a t) (sym e) (sane-without H a (passed s) n (sane-passed H a s h) long);
 }
 

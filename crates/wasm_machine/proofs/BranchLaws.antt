@@ -20,19 +20,19 @@ use Rattle.wasm_machine.specs.declared.next.Question.TheVariants.{Test as CodeTe
 use Rattle.wasm_machine.specs.declared.next.End.TheVariants.{Stuck as CodeStuck}
 use Rattle.wasm_machine.specs.declared.next.Next.{Next as CodeNext}
 use Rattle.wasm_machine.specs.declared.next.Next.TheVariants.{Goes as CodeGoes, Asks as CodeAsks, Ends as CodeEnds}
-use Rattle.wasm_machine.specs.States.{State}
-use Rattle.wasm_machine.specs.Moves.{own, passed, without, kept, again_place, from_end, branched}
+use Rattle.wasm_machine.specs.States.{State, own, passed}
+use Rattle.wasm_machine.specs.code.Moves.{without, kept, again_place, from_end, branched}
 use Rattle.wasm_machine.specs.Values.{value, word_at, ValueHeld}
-use Rattle.wasm_machine.specs.Configurations.{code_of, label_of, labels_of, waiting, image, config_of, configuration, Lies}
-use Rattle.wasm_machine.specs.Choices.{choice_of}
+use Rattle.wasm_machine.specs.Configurations.{code_of, label_of, labels_of, enclosing_labels, image, config_of, configuration, IsWellFormed}
+use Rattle.wasm_machine.specs.code.Choices.{choice_of}
 use Rattle.wasm_machine.specs.Acts.{Sane, Acts}
-use Rattle.wasm_machine.specs.Says.{Says}
+use Rattle.wasm_machine.specs.code.Simulation.{SimulatesWithoutAsking}
 use Rattle.wasm_machine.proofs.Lists.{all-append, all-take, all-drop}
-use Rattle.wasm_machine.proofs.Steps.{config_of-jumped, lies-jumped, branch-out, length-own, short-take, target, lies-passed}
-use Rattle.wasm_machine.proofs.Images.{lies-image, length-own-image, kept-same, sane-passed, sane-without}
+use Rattle.wasm_machine.proofs.Steps.{config_of-jumped, well_formed-jumped, branch-out, length-own, short-take, target, well_formed-passed}
+use Rattle.wasm_machine.proofs.Images.{well_formed-image, length-own-image, kept-same, sane-passed, sane-without}
 use Rattle.wasm_machine.proofs.Operands.{found-word, no-word}
 use Rattle.wasm_machine.proofs.ParametricLaws.{testing-asks, testing-zero, testing-other}
-use Rattle.wasm_machine.proofs.LabelLaws.{targets, target_last, length-waiting, length-labels}
+use Rattle.wasm_machine.proofs.LabelLaws.{targets, target_last, length-enclosing, length-labels}
 use Rattle.wasm_machine.proofs.ActLaws.{ask-acts, drop-acts, stuck-acts, drop-config}
 use Rattle.wasm_machine.proofs.ControlLaws.{going-after, says-stuck, image-kept_operands, own-image-without}
 
@@ -43,10 +43,10 @@ branch-past : {W : Type 0} (c : Config W) (vs : List (Value W)) (ls : List (Labe
 branch-past c vs ls l h = ap (λ ls. branch c vs ls) (drop_all l ls h)
 
 pub branch-beyond : {A V M : Type 0} (H : A → V → Type 0) (means : A → V → M) (m : Module) (a : A) (s : State (CodeValue V)) (l : ℕ) → length s.labels - s.frame.labels < l →
-    Says H means m a s (CodeEnds CodeStuck) (λ b. br (configuration (means a) m b s) (own (image (means a) s)) l)
+    SimulatesWithoutAsking H means m a s (CodeEnds CodeStuck) (λ b. br (configuration (means a) m b s) (own (image (means a) s)) l)
 branch-beyond H means m a s l h = says-stuck H means m a s _ (λ b.
     branch-past (configuration (means a) m b s) (own (image (means a) s)) ((configuration (means a) m b s).frame.here ∷ (configuration (means a) m b s).frame.outer) l
-    (omega (arith, h, length-labels (code_of m s.entry s.frame.func) (waiting s.frame s.labels) (take s.frame.here.height (image (means a) s).operands), length-waiting s.frame s.labels)))
+    (omega (arith, h, length-labels (code_of m s.entry s.frame.func) (enclosing_labels s.frame s.labels) (take s.frame.here.height (image (means a) s).operands), length-enclosing s.frame s.labels)))
 
 -- the label at l carries more than there is
 few-there : {W : Type 0} (c : Config W) (vs : List (Value W)) (t : Label W) (ls : List (Label W)) → length vs < t.arity → branch c vs (t ∷ ls) ≡ Ends Stuck
@@ -59,27 +59,27 @@ few-target code c vs zero here place ks ops n h = few-there c vs (label_of code 
 few-target code c vs (suc k) here place [] ops n h = absurd (omega arith)
 few-target code c vs (suc k) here place (p ∷ ps) ops n h = few-target code c vs k p (p.place + 1) ps (take here.height ops) (omega arith) h
 
-target-is : {X : Type 0} (s : State X) (k : ℕ) → Lies s → k ≤ length s.labels - s.frame.labels → (target s.frame.here (waiting s.frame s.labels) k).0 ≡ from_end s.frame.here s.labels k
+target-is : {X : Type 0} (s : State X) (k : ℕ) → IsWellFormed s → k ≤ length s.labels - s.frame.labels → (target s.frame.here (enclosing_labels s.frame s.labels) k).0 ≡ from_end s.frame.here s.labels k
 target-is s k l h = elim (eq-or-lt_of_le within) [ inl q ↦ ap (λ x. x.0) (target_last s.frame s.labels k q) | inr q ↦ ap (λ x. x.0) (targets s.frame s.labels k q) ]
   where
     within : s.frame.labels + k ≤ length s.labels
     within = omega (arith, h, l.frame.labels_within)
 
 pub branch-few : {A V M : Type 0} (H : A → V → Type 0) (means : A → V → M) (m : Module) (a : A) (s : State (CodeValue V)) (l : ℕ) → Sane H a s → l ≤ length s.labels - s.frame.labels → length (own s) < (from_end s.frame.here s.labels l).arity →
-    Says H means m a s (CodeEnds CodeStuck) (λ b. br (configuration (means a) m b s) (own (image (means a) s)) l)
+    SimulatesWithoutAsking H means m a s (CodeEnds CodeStuck) (λ b. br (configuration (means a) m b s) (own (image (means a) s)) l)
 branch-few H means m a s l sane within h = says-stuck H means m a s _ (λ b.
-    few-target (code_of m s.entry s.frame.func) (configuration (means a) m b s) (own (image (means a) s)) l s.frame.here s.frame.here.place (waiting s.frame s.labels) (image (means a) s).operands
-    (omega (arith, within, length-waiting s.frame s.labels))
-    (rw (length-own-image (means a) s) (subst (λ t. length (own s) < t.arity) (sym (target-is s l sane.lies within)) h)))
+    few-target (code_of m s.entry s.frame.func) (configuration (means a) m b s) (own (image (means a) s)) l s.frame.here s.frame.here.place (enclosing_labels s.frame s.labels) (image (means a) s).operands
+    (omega (arith, within, length-enclosing s.frame s.labels))
+    (rw (length-own-image (means a) s) (subst (λ t. length (own s) < t.arity) (sym (target-is s l sane.well_formed within)) h)))
 
 pub branch-last : {A V M : Type 0} (H : A → V → Type 0) (means : A → V → M) (m : Module) (a : A) (s t : State (CodeValue V)) (l : ℕ) (x : CodeNext V) → Sane H a s → l ≡ length s.labels - s.frame.labels → (from_end s.frame.here s.labels l).arity ≤ length (own s) →
-    Says H means m a t x (λ b. give_back (configuration (means a) m b s) (take (from_end s.frame.here s.labels l).arity (own (image (means a) s))) (configuration (means a) m b s).callers) →
-    Says H means m a t x (λ b. br (configuration (means a) m b s) (own (image (means a) s)) l)
+    SimulatesWithoutAsking H means m a t x (λ b. give_back (configuration (means a) m b s) (take (from_end s.frame.here s.labels l).arity (own (image (means a) s))) (configuration (means a) m b s).callers) →
+    SimulatesWithoutAsking H means m a t x (λ b. br (configuration (means a) m b s) (own (image (means a) s)) l)
 branch-last H means m a s t l x sane e h r =
     let S = image (means a) s in
-    let last : s.frame.labels + l ≡ length s.labels = omega (arith, e, sane.lies.frame.labels_within) in
+    let last : s.frame.labels + l ≡ length s.labels = omega (arith, e, sane.well_formed.frame.labels_within) in
     record {
-      gives = λ b. branch-out m b S l (from_end s.frame.here s.labels l) (lies-image (means a) s sane.lies) (omega (arith, e, length-waiting s.frame s.labels)) (target_last s.frame s.labels l last) (rw (length-own-image (means a) s) h) ∙ r.gives b;
+      gives = λ b. branch-out m b S l (from_end s.frame.here s.labels l) (well_formed-image (means a) s sane.well_formed) (omega (arith, e, length-enclosing s.frame s.labels)) (target_last s.frame s.labels l last) (rw (length-own-image (means a) s) h) ∙ r.gives b;
       going = r.going;
     }
 
@@ -87,22 +87,22 @@ image-branched : {V M : Type 0} (h : V → M) (k : ℕ) (s : State (CodeValue V)
 image-branched h k s = ap (λ o. record (branched k (image h s)) { operands = o }) (sym (image-kept_operands (value h) (from_end s.frame.here s.labels k).height (from_end s.frame.here s.labels k).arity s.operands))
 
 pub branch-goes : {A V M : Type 0} (H : A → V → Type 0) (means : A → V → M) (m : Module) (a : A) (s t : State (CodeValue V)) (l : ℕ) → Sane H a s → l < length s.labels - s.frame.labels → (from_end s.frame.here s.labels l).arity ≤ length (own s) → t ≡ branched l s →
-    Says H means m a t CodeGoes (λ b. br (configuration (means a) m b s) (own (image (means a) s)) l)
+    SimulatesWithoutAsking H means m a t CodeGoes (λ b. br (configuration (means a) m b s) (own (image (means a) s)) l)
 branch-goes H means m a s u l sane h n d =
     let S = image (means a) s in
     let t : CodeLabel = from_end s.frame.here s.labels l in
     let p : CodeLabel = from_end s.frame.here s.labels (l + 1) in
     let r : List CodeLabel = take (length s.labels - (l + 1)) s.labels in
-    let inside : s.frame.labels + l < length s.labels = omega (arith, h, sane.lies.frame.labels_within) in
-    let e : target s.frame.here (waiting s.frame s.labels) l ≡ (t, p ∷ waiting s.frame r) = targets s.frame s.labels l inside in
-    let within : l ≤ length (waiting s.frame s.labels) = omega (arith, h, length-waiting s.frame s.labels) in
+    let inside : s.frame.labels + l < length s.labels = omega (arith, h, sane.well_formed.frame.labels_within) in
+    let e : target s.frame.here (enclosing_labels s.frame s.labels) l ≡ (t, p ∷ enclosing_labels s.frame r) = targets s.frame s.labels l inside in
+    let within : l ≤ length (enclosing_labels s.frame s.labels) = omega (arith, h, length-enclosing s.frame s.labels) in
     let cut : take s.frame.labels r ≡ take s.frame.labels s.labels = take-take s.frame.labels (length s.labels - (l + 1)) s.labels (omega arith) in
     let long : s.frame.labels ≤ length r = omega (arith, length-take-le (length s.labels - (l + 1)) s.labels (omega arith)) in
     record {
-      gives = λ b. config_of-jumped m b S l t p (waiting s.frame r) r (lies-image (means a) s sane.lies) within e refl cut (rw (length-own-image (means a) s) n) ∙
+      gives = λ b. config_of-jumped m b S l t p (enclosing_labels s.frame r) r (well_formed-image (means a) s sane.well_formed) within e refl cut (rw (length-own-image (means a) s) n) ∙
           ap (λ s. Goes (config_of m b s)) (sym (image-branched (means a) l s)) ∙ ap (λ t. Goes (configuration (means a) m b t)) (sym d);
       going = subst (λ t. Sane H a t) (sym d) (record {
-        lies = lies-jumped s l t p (waiting s.frame r) r (again_place t.again p.place) sane.lies within e refl cut long (short-take (length s.labels - (l + 1)) s.labels sane.lies.short) n;
+        well_formed = well_formed-jumped s l t p (enclosing_labels s.frame r) r (again_place t.again p.place) sane.well_formed within e refl cut long (short-take (length s.labels - (l + 1)) s.labels sane.well_formed.short) n;
         operands = all-append (ValueHeld (H a)) (take t.height s.operands) (drop (length s.operands - t.arity) s.operands) (all-take (ValueHeld (H a)) t.height s.operands sane.operands) (all-drop (ValueHeld (H a)) (length s.operands - t.arity) s.operands sane.operands);
         locals = sane.locals;
         globals = sane.globals;
@@ -112,7 +112,7 @@ branch-goes H means m a s u l sane h n d =
 -- ---- br, br_if, br_table
 
 pub br-acts : {A V M : Type 0} (H : A → V → Type 0) (means : A → V → M) (K : Kind M) (m : Module) (a : A) (s p t : State (CodeValue V)) (l : ℕ) (x : CodeNext V) → p ≡ passed s →
-    Says H means m a t x (λ b. br (configuration (means a) m b p) (own (image (means a) p)) l) → Acts H means K m (Br l) a s a t x
+    SimulatesWithoutAsking H means m a t x (λ b. br (configuration (means a) m b p) (own (image (means a) p)) l) → Acts H means K m (Br l) a s a t x
 br-acts H means K m a s p t l x d r = record { gives = λ b. ap (λ p. br (configuration (means a) m b p) (own (image (means a) p)) l) (sym d) ∙ r.gives b; after = going-after H a s t x r.going }
 
 -- a branch doesn't look at the operands of the innermost label
@@ -130,12 +130,12 @@ br-held {W = W} c ws vs (suc k) = by (drop k c.frame.outer)
     by (t ∷ l ∷ ls) = refl
 
 -- a branch without the last operand
-br-below : {V M : Type 0} (h : V → M) (m : Module) (b : List M) (s q : State (CodeValue V)) (l : ℕ) → Lies s → 1 ≤ length (own s) → q ≡ without 1 (passed s) →
+br-below : {V M : Type 0} (h : V → M) (m : Module) (b : List M) (s q : State (CodeValue V)) (l : ℕ) → IsWellFormed s → 1 ≤ length (own s) → q ≡ without 1 (passed s) →
     br (configuration h m b (passed s)) (drop 1 (own (image h s))) l ≡ br (configuration h m b q) (own (image h q)) l
-br-below h m b s q l lies some d =
+br-below h m b s q l well_formed some d =
     br-held (configuration h m b (passed s)) (drop 1 (own (image h s))) (drop 1 (own (image h s))) l ∙
-    ap (λ vs. br (holding (configuration h m b (passed s)) (drop 1 (own (image h s)))) vs l) (sym (own-image-without h (passed s) 1 (lies-passed s lies) some)) ∙
-    ap (λ c. br c (own (image h (without 1 (passed s)))) l) (sym (drop-config h m b (passed s) 1 (lies-passed s lies) some)) ∙
+    ap (λ vs. br (holding (configuration h m b (passed s)) (drop 1 (own (image h s)))) vs l) (sym (own-image-without h (passed s) 1 (well_formed-passed s well_formed) some)) ∙
+    ap (λ c. br c (own (image h (without 1 (passed s)))) l) (sym (drop-config h m b (passed s) 1 (well_formed-passed s well_formed) some)) ∙
     ap (λ q. br (configuration h m b q) (own (image h q)) l) (sym d)
 
 pub br_if-stuck : {A V M : Type 0} (H : A → V → Type 0) (means : A → V → M) (K : Kind M) (m : Module) (a : A) (s : State (CodeValue V)) (l : ℕ) → None ≡ word_at false (own s) 0 → Acts H means K m (BrIf l) a s a s (CodeEnds CodeStuck)
@@ -149,9 +149,9 @@ pub br_if-falls : {A V M : Type 0} (H : A → V → Type 0) (means : A → V →
 br_if-falls H means K m a s p t l w n sane e some f z d r = drop-acts H means K m (BrIf l) a s p t 1 sane some d r (λ b. found-word (means a) s false 0 w _ e ∙ testing-zero (means a w) s.answers n _ _ f z)
 
 pub br_if-goes : {A V M : Type 0} (H : A → V → Type 0) (means : A → V → M) (K : Kind M) (m : Module) (a : A) (s p q t : State (CodeValue V)) (l : ℕ) (w : V) (n : ℕ) (x : CodeNext V) → Sane H a s → Some w ≡ word_at false (own s) 0 → 1 ≤ length (own s) → Some n ≡ slice_get s.answers 0 → n ≢ 0 →
-    p ≡ passed s → q ≡ without 1 p → Says H means m a t x (λ b. br (configuration (means a) m b q) (own (image (means a) q)) l) → Acts H means K m (BrIf l) a s a t x
+    p ≡ passed s → q ≡ without 1 p → SimulatesWithoutAsking H means m a t x (λ b. br (configuration (means a) m b q) (own (image (means a) q)) l) → Acts H means K m (BrIf l) a s a t x
 br_if-goes H means K m a s p q t l w n x sane e some f z d i r = record {
-  gives = λ b. found-word (means a) s false 0 w _ e ∙ testing-other (means a w) s.answers n _ _ f z ∙ br-below (means a) m b s q l sane.lies some (i ∙ ap (λ p. without 1 p) d) ∙ r.gives b;
+  gives = λ b. found-word (means a) s false 0 w _ e ∙ testing-other (means a w) s.answers n _ _ f z ∙ br-below (means a) m b s q l sane.well_formed some (i ∙ ap (λ p. without 1 p) d) ∙ r.gives b;
   after = going-after H a s t x r.going;
 }
 
@@ -179,11 +179,11 @@ table-asks H means K m a a' kept s labels last index w k ns sane e g f held is =
     ap (λ c. choosing_says K (means a index) (λ l. br (configuration (means a) m b (passed s)) (drop 1 (own (image (means a) s))) l) c) (ap (λ l. choice_of labels last l 0) (sym g) ∙ sym f) ∙ ap (λ v. Asks Test v) (sym is))
 
 pub table-goes : {A V M : Type 0} (H : A → V → Type 0) (means : A → V → M) (K : Kind M) (m : Module) (a : A) (s p q t : State (CodeValue V)) (labels : List ℕ) (last : ℕ) (index : V) (l : ℕ) (ns : List ℕ) (x : CodeNext V) → Sane H a s → Some index ≡ word_at false (own s) 0 → 1 ≤ length (own s) →
-    ns ≡ s.answers → ToLabel l ≡ choice_of labels last ns 0 → p ≡ passed s → q ≡ without 1 p → Says H means m a t x (λ b. br (configuration (means a) m b q) (own (image (means a) q)) l) → Acts H means K m (BrTable labels last) a s a t x
+    ns ≡ s.answers → ToLabel l ≡ choice_of labels last ns 0 → p ≡ passed s → q ≡ without 1 p → SimulatesWithoutAsking H means m a t x (λ b. br (configuration (means a) m b q) (own (image (means a) q)) l) → Acts H means K m (BrTable labels last) a s a t x
 table-goes H means K m a s p q t labels last index l ns x sane e some g f d i r = record {
   gives = λ b. found-word (means a) s false 0 index _ e ∙ choosing-is K (means a index) 0 labels last s.answers _ ∙
       ap (λ c. choosing_says K (means a index) (λ l. br (configuration (means a) m b (passed s)) (drop 1 (own (image (means a) s))) l) c) (ap (λ l. choice_of labels last l 0) (sym g) ∙ sym f) ∙
-      br-below (means a) m b s q l sane.lies some (i ∙ ap (λ p. without 1 p) d) ∙ r.gives b;
+      br-below (means a) m b s q l sane.well_formed some (i ∙ ap (λ p. without 1 p) d) ∙ r.gives b;
   after = going-after H a s t x r.going;
 }
 
@@ -202,7 +202,7 @@ return-few H means K m a s h =
     stuck-acts H means K m Return a a s s (λ b. rw (lt-ltb (length (own (image (means a) s))) s.frame.arity few))
 
 pub return-goes : {A V M : Type 0} (H : A → V → Type 0) (means : A → V → M) (K : Kind M) (m : Module) (a : A) (s p t : State (CodeValue V)) (n : ℕ) (x : CodeNext V) → n ≡ s.frame.arity → n ≤ length (own s) → p ≡ passed s →
-    Says H means m a t x (λ b. give_back (configuration (means a) m b p) (take n (own (image (means a) p))) (configuration (means a) m b p).callers) → Acts H means K m Return a s a t x
+    SimulatesWithoutAsking H means m a t x (λ b. give_back (configuration (means a) m b p) (take n (own (image (means a) p))) (configuration (means a) m b p).callers) → Acts H means K m Return a s a t x
 return-goes H means K m a s p t n x e h d r =
     let enough : s.frame.arity ≤ length (own (image (means a) s)) = rw (length-own-image (means a) s) (subst (λ n. n ≤ length (own s)) e h) in
     record {

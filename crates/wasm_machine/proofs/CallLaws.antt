@@ -31,15 +31,15 @@ use Rattle.wasm_machine.specs.declared.next.Question.TheVariants.{Test as CodeTe
 use Rattle.wasm_machine.specs.declared.next.End.TheVariants.{Stuck as CodeStuck, Assumes as CodeAssumes, Fails as CodeFails}
 use Rattle.wasm_machine.specs.declared.next.Next.{Next as CodeNext}
 use Rattle.wasm_machine.specs.declared.next.Next.TheVariants.{Goes as CodeGoes, Draws as CodeDraws, Asks as CodeAsks, Ends as CodeEnds}
-use Rattle.wasm_machine.specs.States.{State}
-use Rattle.wasm_machine.specs.Moves.{own, passed, without, called}
+use Rattle.wasm_machine.specs.States.{State, own, passed}
+use Rattle.wasm_machine.specs.code.Moves.{without, called}
 use Rattle.wasm_machine.specs.Values.{value, word_at, default_value, first_locals_of, ValueHeld, ValuesHeld}
-use Rattle.wasm_machine.specs.Configurations.{image, config_of, configuration, Lies}
+use Rattle.wasm_machine.specs.Configurations.{image, config_of, configuration, IsWellFormed}
 use Rattle.wasm_machine.specs.Acts.{Sane, Acts}
-use Rattle.wasm_machine.specs.Says.{Tells}
+use Rattle.wasm_machine.specs.code.Simulation.{Simulates}
 use Rattle.wasm_machine.proofs.Lists.{all-append, all-take, all-drop}
-use Rattle.wasm_machine.proofs.Steps.{length-own, config_of-called, lies-called, lies-passed, own-without}
-use Rattle.wasm_machine.proofs.Images.{lies-image, length-own-image, image-kept, sane-kept, sane-passed, sane-without}
+use Rattle.wasm_machine.proofs.Steps.{length-own, config_of-called, well_formed-called, well_formed-passed, own-without}
+use Rattle.wasm_machine.proofs.Images.{well_formed-image, length-own-image, image-kept, sane-kept, sane-passed, sane-without}
 use Rattle.wasm_machine.proofs.Operands.{found-word, no-word}
 use Rattle.wasm_machine.proofs.ParametricLaws.{testing-asks, testing-zero, testing-other}
 use Rattle.wasm_machine.proofs.ControlLaws.{own-image-without}
@@ -75,67 +75,67 @@ hosting means m a s k j h b = calling_host (configuration (means a) m b (passed 
 
 pub symbol-tells : {A V M : Type 0} (H : A → V → Type 0) (means : A → V → M) (m : Module) (a : A) (s p t : State (CodeValue V)) (k j : ℕ) (wide : Bool) (h : Host) → Sane H a s → k ≤ length (own s) → p ≡ passed s → t ≡ without k p →
     ((c : Config M) (vs : List (Value M)) (ns : List ℕ) → calling_host c vs ns (Some h) ≡ Draws wide (holding c vs)) →
-    Tells H means m a s t (CodeDraws wide) (hosting means m a s k j h)
+    Simulates H means m a s t (CodeDraws wide) (hosting means m a s k j h)
 symbol-tells H means m a s p t k j wide h sane some d i f =
     let e : t ≡ without k (passed s) = i ∙ ap (λ p. without k p) d in
     record {
       gives = λ b. f (configuration (means a) m b (passed s)) (drop k (own (image (means a) s))) (drop j s.answers) ∙
-          ap (λ c. Draws wide c) (sym (drop-config (means a) m b (passed s) k (lies-passed s sane.lies) some)) ∙ ap (λ t. Draws wide (configuration (means a) m b t)) (sym e);
+          ap (λ c. Draws wide c) (sym (drop-config (means a) m b (passed s) k (well_formed-passed s sane.well_formed) some)) ∙ ap (λ t. Draws wide (configuration (means a) m b t)) (sym e);
       after = subst (λ t. Sane H a t) (sym e) (sane-without H a (passed s) k (sane-passed H a s sane) some);
     }
 
 pub host-stuck : {A V M : Type 0} (H : A → V → Type 0) (means : A → V → M) (m : Module) (a : A) (s : State (CodeValue V)) (k j : ℕ) (h : Host) → None ≡ word_at false (own s) k →
     ((c : Config M) (vs : List (Value M)) (ns : List ℕ) → (go : M → List (Value M) → Next M) × (calling_host c vs ns (Some h) ≡ with_word false vs go)) →
-    Tells H means m a s s (CodeEnds CodeStuck) (hosting means m a s k j h)
+    Simulates H means m a s s (CodeEnds CodeStuck) (hosting means m a s k j h)
 host-stuck H means m a s k j h e f = record {
   gives = λ b. let g = f (configuration (means a) m b (passed s)) (drop k (own (image (means a) s))) (drop j s.answers) in g.1 ∙ no-word (means a) s false k g.0 e;
   after = tt;
 }
 
 pub assume-asks : {A V M : Type 0} (H : A → V → Type 0) (means : A → V → M) (m : Module) (a : A) (s : State (CodeValue V)) (k j : ℕ) (w : V) → Sane H a s → Some w ≡ word_at false (own s) k → H a w → None ≡ slice_get s.answers j →
-    Tells H means m a s s (CodeAsks CodeAssume w) (hosting means m a s k j AssumeHost)
+    Simulates H means m a s s (CodeAsks CodeAssume w) (hosting means m a s k j AssumeHost)
 assume-asks H means m a s k j w sane e held f = record {
   gives = λ b. found-word (means a) s false k w _ e ∙ assuming-asks (means a w) (drop j s.answers) _ _ (f ∙ sym (get-drop s.answers j));
   after = (sane, refl, held);
 }
 
 pub assume-ends : {A V M : Type 0} (H : A → V → Type 0) (means : A → V → M) (m : Module) (a : A) (s : State (CodeValue V)) (k j : ℕ) (w : V) (n : ℕ) → Some w ≡ word_at false (own s) k → Some n ≡ slice_get s.answers j → n ≡ 0 →
-    Tells H means m a s s (CodeEnds CodeAssumes) (hosting means m a s k j AssumeHost)
+    Simulates H means m a s s (CodeEnds CodeAssumes) (hosting means m a s k j AssumeHost)
 assume-ends H means m a s k j w n e f z = record {
   gives = λ b. found-word (means a) s false k w _ e ∙ assuming-zero (means a w) (drop j s.answers) n _ _ (f ∙ sym (get-drop s.answers j)) z;
   after = tt;
 }
 
 below-one : {A V M : Type 0} (H : A → V → Type 0) (means : A → V → M) (m : Module) (a : A) (s p t : State (CodeValue V)) (k : ℕ) (e : List M → Next M) → Sane H a s → k + 1 ≤ length (own s) → p ≡ passed s → t ≡ without (k + 1) p →
-    ((b : List M) → e b ≡ Goes (holding (configuration (means a) m b (passed s)) (drop (k + 1) (own (image (means a) s))))) → Tells H means m a s t CodeGoes e
+    ((b : List M) → e b ≡ Goes (holding (configuration (means a) m b (passed s)) (drop (k + 1) (own (image (means a) s))))) → Simulates H means m a s t CodeGoes e
 below-one H means m a s p t k e sane some d i f =
     let g : t ≡ without (k + 1) (passed s) = i ∙ ap (λ p. without (k + 1) p) d in
     record {
-      gives = λ b. f b ∙ ap (λ c. Goes c) (sym (drop-config (means a) m b (passed s) (k + 1) (lies-passed s sane.lies) some)) ∙ ap (λ t. Goes (configuration (means a) m b t)) (sym g);
+      gives = λ b. f b ∙ ap (λ c. Goes c) (sym (drop-config (means a) m b (passed s) (k + 1) (well_formed-passed s sane.well_formed) some)) ∙ ap (λ t. Goes (configuration (means a) m b t)) (sym g);
       after = subst (λ t. Sane H a t) (sym g) (sane-without H a (passed s) (k + 1) (sane-passed H a s sane) some);
     }
 
 pub assume-goes : {A V M : Type 0} (H : A → V → Type 0) (means : A → V → M) (m : Module) (a : A) (s p t : State (CodeValue V)) (k j : ℕ) (w : V) (n : ℕ) → Sane H a s → Some w ≡ word_at false (own s) k → k + 1 ≤ length (own s) → Some n ≡ slice_get s.answers j → n ≢ 0 →
-    p ≡ passed s → t ≡ without (k + 1) p → Tells H means m a s t CodeGoes (hosting means m a s k j AssumeHost)
+    p ≡ passed s → t ≡ without (k + 1) p → Simulates H means m a s t CodeGoes (hosting means m a s k j AssumeHost)
 assume-goes H means m a s p t k j w n sane e some f z d i = below-one H means m a s p t k _ sane some d i (λ b.
     found-word (means a) s false k w _ e ∙ assuming-other (means a w) (drop j s.answers) n _ _ (f ∙ sym (get-drop s.answers j)) z)
 
 pub assert-asks : {A V M : Type 0} (H : A → V → Type 0) (means : A → V → M) (m : Module) (a : A) (s : State (CodeValue V)) (k j : ℕ) (w : V) → Sane H a s → Some w ≡ word_at false (own s) k → H a w → None ≡ slice_get s.answers j →
-    Tells H means m a s s (CodeAsks CodeTest w) (hosting means m a s k j AssertHost)
+    Simulates H means m a s s (CodeAsks CodeTest w) (hosting means m a s k j AssertHost)
 assert-asks H means m a s k j w sane e held f = record {
   gives = λ b. found-word (means a) s false k w _ e ∙ testing-asks (means a w) (drop j s.answers) _ _ (f ∙ sym (get-drop s.answers j));
   after = (sane, refl, held);
 }
 
 pub assert-ends : {A V M : Type 0} (H : A → V → Type 0) (means : A → V → M) (m : Module) (a : A) (s : State (CodeValue V)) (k j : ℕ) (w : V) (n : ℕ) → Some w ≡ word_at false (own s) k → Some n ≡ slice_get s.answers j → n ≡ 0 →
-    Tells H means m a s s (CodeEnds CodeFails) (hosting means m a s k j AssertHost)
+    Simulates H means m a s s (CodeEnds CodeFails) (hosting means m a s k j AssertHost)
 assert-ends H means m a s k j w n e f z = record {
   gives = λ b. found-word (means a) s false k w _ e ∙ testing-zero (means a w) (drop j s.answers) n _ _ (f ∙ sym (get-drop s.answers j)) z;
   after = tt;
 }
 
 pub assert-goes : {A V M : Type 0} (H : A → V → Type 0) (means : A → V → M) (m : Module) (a : A) (s p t : State (CodeValue V)) (k j : ℕ) (w : V) (n : ℕ) → Sane H a s → Some w ≡ word_at false (own s) k → k + 1 ≤ length (own s) → Some n ≡ slice_get s.answers j → n ≢ 0 →
-    p ≡ passed s → t ≡ without (k + 1) p → Tells H means m a s t CodeGoes (hosting means m a s k j AssertHost)
+    p ≡ passed s → t ≡ without (k + 1) p → Simulates H means m a s t CodeGoes (hosting means m a s k j AssertHost)
 assert-goes H means m a s p t k j w n sane e some f z d i = below-one H means m a s p t k _ sane some d i (λ b.
     found-word (means a) s false k w _ e ∙ testing-other (means a w) (drop j s.answers) n _ _ (f ∙ sym (get-drop s.answers j)) z)
 
@@ -179,7 +179,7 @@ abbrev pub coding : {A V M : Type 0} → (A → V → M) → Kind M → Module �
 coding means K m a s k f ns b = calling K m (configuration (means a) m b (passed s)) (drop k (own (image (means a) s))) ns (defined_as f) (Code f)
 
 pub code-lacks : {A V M : Type 0} (H : A → V → Type 0) (means : A → V → M) (K : Kind M) (m : Module) (a : A) (s : State (CodeValue V)) (k : ℕ) (f : Func) (ns : List ℕ) → slice_get m.types f.ty ≡ None →
-    Tells H means m a s s (CodeEnds CodeStuck) (coding means K m a s k f ns)
+    Simulates H means m a s s (CodeEnds CodeStuck) (coding means K m a s k f ns)
 code-lacks {M = M} H means K m a s k f ns e = record {
   gives = λ b. let c : Config M = configuration (means a) m b (passed s) in
       ap (λ o. with_found o (λ t. with_last (length t.params) (drop k (own (image (means a) s))) (λ args rest.
@@ -203,16 +203,16 @@ framed c vs n arity others f =
 
 pub code-goes : {A V M : Type 0} (H : A → V → Type 0) (means : A → V → M) (K : Kind M) (m : Module) (a a' : A) → Kept H means a a' → (s p q t : State (CodeValue V)) (k g n arity : ℕ) (nought : V) (f : Func) (type : FuncType) (ns : List ℕ) → Sane H a s → k ≤ length (own s) →
     slice_get m.funcs g ≡ Some f → slice_get m.types f.ty ≡ Some type → n ≡ length type.params → arity ≡ length type.results → length type.params ≤ length (own s) - k → H a' nought → means a' nought ≡ K.number 0 →
-    p ≡ passed s → q ≡ without k p → t ≡ called g n (first_locals_of nought f.locals) arity q → Tells H means m a' s t CodeGoes (coding means K m a s k f ns)
+    p ≡ passed s → q ≡ without k p → t ≡ called g n (first_locals_of nought f.locals) arity q → Simulates H means m a' s t CodeGoes (coding means K m a s k f ns)
 code-goes {A = A} {V = V} {M = M} H means K m a a' kept s p q t k g n arity nought f type ns sane some there typed params results long held is d i w =
     let u : State (CodeValue V) = without k (passed s) in
     let S = image (means a) s in
     let U = image (means a) u in
-    let lies : Lies u = (sane-without H a (passed s) k (sane-passed H a s sane) some).lies in
+    let well_formed : IsWellFormed u = (sane-without H a (passed s) k (sane-passed H a s sane) some).well_formed in
     let sane' : Sane H a' u = sane-kept H means a a' kept u (sane-without H a (passed s) k (sane-passed H a s sane) some) in
     let e : t ≡ called g n (first_locals_of nought f.locals) arity u = w ∙ ap (λ q. called g n (first_locals_of nought f.locals) arity q) (i ∙ ap (λ p. without k p) d) in
-    let owns : own U ≡ drop k (own S) = own-image-without (means a) (passed s) k (lies-passed s sane.lies) some in
-    let here : length (own u) ≡ length (own s) - k = ap (λ l. length l) (own-without (passed s) k (lies-passed s sane.lies) some) ∙ length-drop k (own s) in
+    let owns : own U ≡ drop k (own S) = own-image-without (means a) (passed s) k (well_formed-passed s sane.well_formed) some in
+    let here : length (own u) ≡ length (own s) - k = ap (λ l. length l) (own-without (passed s) k (well_formed-passed s sane.well_formed) some) ∙ length-drop k (own s) in
     let enough : n ≤ length (own u) = omega (arith, here, params, long) in
     let args : length type.params ≤ length (drop k (own S)) = omega (arith, long, length-own-image (means a) s, length-drop k (own S)) in
     record {
@@ -224,12 +224,12 @@ code-goes {A = A} {V = V} {M = M} H means K m a a' kept s p q t k g n arity noug
           ap (λ z. Goes (framed c (drop k (own S)) n z (first_locals K f.locals) f)) (sym results) ∙
           ap (λ l. Goes (framed c (drop k (own S)) n arity l f)) (sym (locals-image (means a') K nought f.locals is)) ∙
           ap (λ vs. Goes (framed (holding c (drop k (own S))) vs n arity (map (value (means a')) (first_locals_of nought f.locals)) f)) (sym owns) ∙
-          ap (λ c. Goes (framed c (own U) n arity (map (value (means a')) (first_locals_of nought f.locals)) f)) (sym (drop-config (means a) m b (passed s) k (lies-passed s sane.lies) some)) ∙
-          ap (λ c. Goes c) (config_of-called m b U g f n arity (map (value (means a')) (first_locals_of nought f.locals)) (lies-image (means a) u lies) there (rw (length-own-image (means a) u) enough)) ∙
+          ap (λ c. Goes (framed c (own U) n arity (map (value (means a')) (first_locals_of nought f.locals)) f)) (sym (drop-config (means a) m b (passed s) k (well_formed-passed s sane.well_formed) some)) ∙
+          ap (λ c. Goes c) (config_of-called m b U g f n arity (map (value (means a')) (first_locals_of nought f.locals)) (well_formed-image (means a) u well_formed) there (rw (length-own-image (means a) u) enough)) ∙
           ap (λ s. Goes (config_of m b (called g n (map (value (means a')) (first_locals_of nought f.locals)) arity s))) (sym (image-kept H means a a' kept u (sane-without H a (passed s) k (sane-passed H a s sane) some))) ∙
           ap (λ s. Goes (config_of m b s)) (sym (image-called (means a') g n arity (first_locals_of nought f.locals) u)) ∙ ap (λ t. Goes (configuration (means a') m b t)) (sym e));
       after = subst (λ t. Sane H a' t) (sym e) (record {
-        lies = lies-called u g n arity (first_locals_of nought f.locals) lies enough;
+        well_formed = well_formed-called u g n arity (first_locals_of nought f.locals) well_formed enough;
         operands = all-take (ValueHeld (H a')) (length u.operands - n) u.operands sane'.operands;
         locals = all-append (ValueHeld (H a')) u.locals (drop (length u.operands - n) u.operands ++ first_locals_of nought f.locals) sane'.locals
             (all-append (ValueHeld (H a')) (drop (length u.operands - n) u.operands) (first_locals_of nought f.locals) (all-drop (ValueHeld (H a')) (length u.operands - n) u.operands sane'.operands) (locals-held (H a') nought f.locals held));
@@ -244,7 +244,7 @@ abbrev pub function_says : {A V M : Type 0} → (A → V → M) → Kind M → M
 function_says means K m a s x k j b = call K m (configuration (means a) m b (passed s)) (drop k (own (image (means a) s))) (drop j s.answers) x
 
 pub calls-host : {A V M : Type 0} (H : A → V → Type 0) (means : A → V → M) (K : Kind M) (m : Module) (a : A) (s t : State (CodeValue V)) (x k j : ℕ) (h : Host) (r : CodeNext V) → IsHostFunction m x h →
-    Tells H means m a s t r (hosting means m a s k j h) → Tells H means m a s t r (function_says means K m a s x k j)
+    Simulates H means m a s t r (hosting means m a s k j h) → Simulates H means m a s t r (function_says means K m a s x k j)
 calls-host H means K m a s t x k j h r is tells =
     let found = runs-host m x h is in
     record {
@@ -253,7 +253,7 @@ calls-host H means K m a s t x k j h r is tells =
     }
 
 pub calls-code : {A V M : Type 0} (H : A → V → Type 0) (means : A → V → M) (K : Kind M) (m : Module) (a a' : A) (s t : State (CodeValue V)) (x g k j : ℕ) (f : Func) (r : CodeNext V) → x ≡ length (imported_functions m) + g → slice_get m.funcs g ≡ Some f →
-    Tells H means m a' s t r (coding means K m a s k f (drop j s.answers)) → Tells H means m a' s t r (function_says means K m a s x k j)
+    Simulates H means m a' s t r (coding means K m a s k f (drop j s.answers)) → Simulates H means m a' s t r (function_says means K m a s x k j)
 calls-code H means K m a a' s t x g k j f r e there tells = record {
   gives = λ b. ap (λ o. with_found o (λ f. calling K m (configuration (means a) m b (passed s)) (drop k (own (image (means a) s))) (drop j s.answers) f f.body)) (ap (λ x. slice_get (functions m) x) e ∙ runs-code m g f there) ∙ tells.gives b;
   after = tells.after;
@@ -267,7 +267,7 @@ import-count (i ∷ is) = one (func_import i.kind) _ _ (import-count is)
     one None js fs e = e
     one (Some ty) js fs e = ap suc e
 
-pub calls-none : {A V M : Type 0} (H : A → V → Type 0) (means : A → V → M) (K : Kind M) (m : Module) (a : A) (s : State (CodeValue V)) (x k j : ℕ) → length (imported_functions m) + length m.funcs ≤ x → Tells H means m a s s (CodeEnds CodeStuck) (function_says means K m a s x k j)
+pub calls-none : {A V M : Type 0} (H : A → V → Type 0) (means : A → V → M) (K : Kind M) (m : Module) (a : A) (s : State (CodeValue V)) (x k j : ℕ) → length (imported_functions m) + length m.funcs ≤ x → Simulates H means m a s s (CodeEnds CodeStuck) (function_says means K m a s x k j)
 calls-none H means K m a s x k j h =
     let imports = filter_map (λ i. option_map (imported_as i) (func_import i.kind)) m.imports in
     let all : length (functions m) ≤ x = omega (arith, h, import-count m.imports, length-append imports (map defined_as m.funcs), length-map m.funcs defined_as) in
@@ -279,7 +279,7 @@ calls-none H means K m a s x k j h =
 pub linked-host : (m : Module) (x : ℕ) → AreLinked m → ((h : Host) → IsHostFunction m x h → ⊥) → x < length (imported_functions m) → ⊥
 linked-host m x linked none h = let e = each_host m x linked h in none e.0 e.1
 
-pub call-acts : {A V M : Type 0} (H : A → V → Type 0) (means : A → V → M) (K : Kind M) (m : Module) (a a' : A) (s t : State (CodeValue V)) (x : ℕ) (r : CodeNext V) → Tells H means m a' s t r (function_says means K m a s x 0 0) → Acts H means K m (Call x) a s a' t r
+pub call-acts : {A V M : Type 0} (H : A → V → Type 0) (means : A → V → M) (K : Kind M) (m : Module) (a a' : A) (s t : State (CodeValue V)) (x : ℕ) (r : CodeNext V) → Simulates H means m a' s t r (function_says means K m a s x 0 0) → Acts H means K m (Call x) a s a' t r
 call-acts H means K m a a' s t x r tells = record { gives = tells.gives; after = tells.after }
 
 -- the arguments lie among the operands

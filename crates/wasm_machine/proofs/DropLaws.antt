@@ -9,9 +9,8 @@ use Rattle.wasm_reduction.specs.Combinators.{with_datas, with_elems, with_found}
 use Rattle.wasm_machine.specs.declared.values.Value.{Value as CodeValue}
 use Rattle.wasm_machine.specs.declared.next.Next.TheVariants.{Goes as CodeGoes, Ends as CodeEnds}
 use Rattle.wasm_machine.specs.declared.next.End.TheVariants.{Stuck as CodeStuck}
-use Rattle.wasm_machine.specs.States.{State}
-use Rattle.wasm_machine.specs.Moves.{passed}
-use Rattle.wasm_machine.specs.Stores.{without_data, without_elem}
+use Rattle.wasm_machine.specs.States.{State, passed}
+use Rattle.wasm_machine.specs.code.Moves.{without_data, without_elem}
 use Rattle.wasm_machine.specs.Values.{reference}
 use Rattle.wasm_machine.specs.Configurations.{configuration, datas_of}
 use Rattle.wasm_machine.specs.Acts.{Sane, Acts}
@@ -30,7 +29,7 @@ module _ {A V M : Type 0} (H : A → V → Type 0) (means : A → V → M) (K : 
       let held = sane-passed H a s sane in record {
         gives = λ b. ap (λ o. with_found o (λ old. Goes (with_datas (configuration (means a) m b (passed s)) (slice_set (datas_of s.dropped m.segments) x [])))) (data_some s.dropped m.segments x d found).1
             ∙ ap (λ c. Goes c) (sym (ap (λ t. configuration (means a) m b t) e ∙ ap (λ ds. with_datas (configuration (means a) m b (passed s)) ds) (data_set s.dropped m.segments x)));
-        after = subst (λ t. Sane H a t) (sym e) (record { lies = record { frame = held.lies.frame; callers = held.lies.callers; short = held.lies.short }; operands = held.operands; locals = held.locals; globals = held.globals });
+        after = subst (λ t. Sane H a t) (sym e) (record { well_formed = record { frame = held.well_formed.frame; callers = held.well_formed.callers; short = held.well_formed.short }; operands = held.operands; locals = held.locals; globals = held.globals });
       }
 
   pub elem-stuck : (e : ℕ) → None ≡ option_map length (slice_get s.elems e) → Acts H means K m (ElemDrop e) a s a s (CodeEnds CodeStuck)

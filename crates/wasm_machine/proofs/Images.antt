@@ -13,28 +13,28 @@ use Rattle.wasm_machine.specs.declared.values.Value.{Value as CodeValue}
 use Rattle.wasm_machine.specs.declared.values.Value.TheVariants.{I32 as CodeI32, I64 as CodeI64, Ref as CodeRef}
 use Rattle.wasm_machine.specs.declared.machine.Label.{Label as CodeLabel}
 use Rattle.wasm_machine.specs.declared.machine.Frame.{Frame as CodeFrame}
-use Rattle.wasm_machine.specs.States.{State}
-use Rattle.wasm_machine.specs.Moves.{pushed, without, replaced, own, passed, with_local, with_global}
+use Rattle.wasm_machine.specs.States.{State, own, passed}
+use Rattle.wasm_machine.specs.code.Moves.{pushed, without, replaced, with_local, with_global}
 use Rattle.wasm_machine.specs.Values.{value, word_of as code_word, valued as code_valued, word_at, reference_at, ValueHeld, ValuesHeld}
-use Rattle.wasm_machine.specs.Configurations.{FramesLie, Lies, image}
+use Rattle.wasm_machine.specs.Configurations.{AreFramesWellFormed, IsWellFormed, image}
 use Rattle.wasm_machine.specs.Acts.{Sane}
 use Rattle.wasm_machine.proofs.Lists.{map-reverse, all-append, all-take, all-drop, all-reverse}
-use Rattle.wasm_machine.proofs.Steps.{lies-passed, lies-pushed, lies-without, lies-local}
+use Rattle.wasm_machine.proofs.Steps.{well_formed-passed, well_formed-pushed, well_formed-without, well_formed-local}
 
 -- ---- states
 
 pub own-image : {V W : Type 0} (h : V → W) (s : State (CodeValue V)) → own (image h s) ≡ map (value h) (own s)
 own-image h s = rw (drop-map (value h) s.frame.here.height s.operands) (sym (map-reverse (value h) (drop s.frame.here.height s.operands)))
 
-frames-image : {V W : Type 0} (h : V → W) (ps : List CodeFrame) (labels : List CodeLabel) (ops locals : List V) → FramesLie ps labels ops locals → FramesLie ps labels (map h ops) (map h locals)
+frames-image : {V W : Type 0} (h : V → W) (ps : List CodeFrame) (labels : List CodeLabel) (ops locals : List V) → AreFramesWellFormed ps labels ops locals → AreFramesWellFormed ps labels (map h ops) (map h locals)
 frames-image h [] labels ops locals l = tt
 frames-image h (p ∷ ps) labels ops locals l = (
   record { height = rw (length-map ops h) l.0.height; falls = l.0.falls; labels_within = l.0.labels_within; base_within = rw (length-map locals h) l.0.base_within },
   rw (take-map h p.floor ops, take-map h p.base locals) (frames-image h ps (take p.labels labels) (take p.floor ops) (take p.base locals) l.1),
 )
 
-pub lies-image : {V W : Type 0} (h : V → W) (s : State (CodeValue V)) → Lies s → Lies (image h s)
-lies-image h s l = record {
+pub well_formed-image : {V W : Type 0} (h : V → W) (s : State (CodeValue V)) → IsWellFormed s → IsWellFormed (image h s)
+well_formed-image h s l = record {
   frame = record { height = rw (length-map s.operands (value h)) l.frame.height; falls = l.frame.falls; labels_within = l.frame.labels_within; base_within = rw (length-map s.locals (value h)) l.frame.base_within };
   callers = rw (take-map (value h) s.frame.floor s.operands, take-map (value h) s.frame.base s.locals) (frames-image (value h) _ _ _ _ l.callers);
   short = l.short;
@@ -77,7 +77,7 @@ pub image-kept : {A V M : Type 0} (H : A → V → Type 0) (means : A → V → 
 image-kept H means a b k s h = rw (values-kept H means a b k s.operands h.operands, values-kept H means a b k s.locals h.locals, values-kept H means a b k s.globals h.globals)
 
 pub sane-kept : {A V M : Type 0} (H : A → V → Type 0) (means : A → V → M) (a b : A) → Kept H means a b → (s : State (CodeValue V)) → Sane H a s → Sane H b s
-sane-kept H means a b k s h = record { lies = h.lies; operands = all-kept H means a b k s.operands h.operands; locals = all-kept H means a b k s.locals h.locals; globals = all-kept H means a b k s.globals h.globals }
+sane-kept H means a b k s h = record { well_formed = h.well_formed; operands = all-kept H means a b k s.operands h.operands; locals = all-kept H means a b k s.locals h.locals; globals = all-kept H means a b k s.globals h.globals }
 
 pub kept-same : {A V M : Type 0} (H : A → V → Type 0) (means : A → V → M) (a : A) → Kept H means a a
 kept-same H means a w h = (h, refl)
@@ -88,13 +88,13 @@ kept-then H means a b c k l w h = let one = k w h in let two = l w one.0 in (two
 -- ---- states in order
 
 pub sane-passed : {A V : Type 0} (H : A → V → Type 0) (a : A) (s : State (CodeValue V)) → Sane H a s → Sane H a (passed s)
-sane-passed H a s h = record { lies = lies-passed s h.lies; operands = h.operands; locals = h.locals; globals = h.globals }
+sane-passed H a s h = record { well_formed = well_formed-passed s h.well_formed; operands = h.operands; locals = h.locals; globals = h.globals }
 
 pub sane-pushed : {A V : Type 0} (H : A → V → Type 0) (a : A) (s : State (CodeValue V)) (v : CodeValue V) → Sane H a s → ValueHeld (H a) v → Sane H a (pushed v s)
-sane-pushed H a s v h k = record { lies = lies-pushed s v h.lies; operands = all-append (ValueHeld (H a)) s.operands (v ∷ []) h.operands (k, tt); locals = h.locals; globals = h.globals }
+sane-pushed H a s v h k = record { well_formed = well_formed-pushed s v h.well_formed; operands = all-append (ValueHeld (H a)) s.operands (v ∷ []) h.operands (k, tt); locals = h.locals; globals = h.globals }
 
 pub sane-without : {A V : Type 0} (H : A → V → Type 0) (a : A) (s : State (CodeValue V)) (n : ℕ) → Sane H a s → n ≤ length (own s) → Sane H a (without n s)
-sane-without H a s n h k = record { lies = lies-without s n h.lies k; operands = all-take (ValueHeld (H a)) (length s.operands - n) s.operands h.operands; locals = h.locals; globals = h.globals }
+sane-without H a s n h k = record { well_formed = well_formed-without s n h.well_formed k; operands = all-take (ValueHeld (H a)) (length s.operands - n) s.operands h.operands; locals = h.locals; globals = h.globals }
 
 -- ---- operands
 
@@ -178,7 +178,7 @@ pub image-global : {V W : Type 0} (h : V → W) (x : ℕ) (v : CodeValue V) (s :
 image-global h x v s = ap (λ o. record (image h s) { globals = o }) (map-slice_set (value h) s.globals x v)
 
 pub sane-local : {A V : Type 0} (H : A → V → Type 0) (a : A) (s : State (CodeValue V)) (x : ℕ) (v : CodeValue V) → Sane H a s → ValueHeld (H a) v → Sane H a (with_local x v s)
-sane-local H a s x v h k = record { lies = lies-local s x v h.lies (length-set s.locals (s.frame.base + x) v); operands = h.operands; locals = all-set (ValueHeld (H a)) (s.frame.base + x) s.locals v h.locals k; globals = h.globals }
+sane-local H a s x v h k = record { well_formed = well_formed-local s x v h.well_formed (length-set s.locals (s.frame.base + x) v); operands = h.operands; locals = all-set (ValueHeld (H a)) (s.frame.base + x) s.locals v h.locals k; globals = h.globals }
 
 pub sane-global : {A V : Type 0} (H : A → V → Type 0) (a : A) (s : State (CodeValue V)) (x : ℕ) (v : CodeValue V) → Sane H a s → ValueHeld (H a) v → Sane H a (with_global x v s)
-sane-global H a s x v h k = record { lies = record { frame = h.lies.frame; callers = h.lies.callers; short = h.lies.short }; operands = h.operands; locals = h.locals; globals = all-set (ValueHeld (H a)) x s.globals v h.globals k }
+sane-global H a s x v h k = record { well_formed = record { frame = h.well_formed.frame; callers = h.well_formed.callers; short = h.well_formed.short }; operands = h.operands; locals = h.locals; globals = all-set (ValueHeld (H a)) x s.globals v h.globals k }

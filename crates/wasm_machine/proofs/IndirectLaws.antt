@@ -27,14 +27,13 @@ use Rattle.wasm_machine.specs.declared.ranges.Reached.TheVariants.{Ask as AskFor
 use Rattle.wasm_machine.specs.declared.next.End.TheVariants.{Stuck as CodeStuck, Traps as CodeTraps}
 use Rattle.wasm_machine.specs.declared.next.Next.{Next as CodeNext}
 use Rattle.wasm_machine.specs.declared.next.Next.TheVariants.{Asks as CodeAsks, Ends as CodeEnds}
-use Rattle.wasm_machine.specs.States.{State}
-use Rattle.wasm_machine.specs.Moves.{own, passed}
+use Rattle.wasm_machine.specs.States.{State, own, passed}
 use Rattle.wasm_machine.specs.Values.{reference, word_at}
 use Rattle.wasm_machine.specs.Configurations.{image, configuration}
 use Rattle.wasm_machine.specs.Stores.{list_at, TablesSmall}
-use Rattle.wasm_machine.specs.Reached.{reached}
+use Rattle.wasm_machine.specs.code.RangeProgress.{reached}
 use Rattle.wasm_machine.specs.Acts.{Sane, Acts}
-use Rattle.wasm_machine.specs.Says.{Tells}
+use Rattle.wasm_machine.specs.code.Simulation.{Simulates}
 use Rattle.wasm_machine.proofs.Operands.{found-word, no-word}
 use Rattle.wasm_machine.proofs.ActLaws.{acting, ask-acts, trap-acts, stuck-acts}
 use Rattle.wasm_machine.proofs.Lists.{all-get}
@@ -97,7 +96,7 @@ picked means K m a s type f b = calling_reference K m (configuration (means a) m
 functions-count : (m : Module) → length (functions m) ≡ function_count m
 functions-count m = sym (length-map (functions m) (λ f. f.ty)) ∙ ap (λ l. length l) (function-types m)
 
-pub picked-none : {A V M : Type 0} (H : A → V → Type 0) (means : A → V → M) (K : Kind M) (m : Module) (a : A) (s : State (CodeValue V)) (type : FuncType) (f : ℕ) → function_count m ≤ f → Tells H means m a s s (CodeEnds CodeStuck) (picked means K m a s type f)
+pub picked-none : {A V M : Type 0} (H : A → V → Type 0) (means : A → V → M) (K : Kind M) (m : Module) (a : A) (s : State (CodeValue V)) (type : FuncType) (f : ℕ) → function_count m ≤ f → Simulates H means m a s s (CodeEnds CodeStuck) (picked means K m a s type f)
 picked-none H means K m a s type f h = record {
   gives = λ b. ap (λ o. with_found o (λ g. with_found (type_of m g) (λ t. calling_of_type K m (configuration (means a) m b (passed s)) (drop 1 (own (image (means a) s))) (drop 2 s.answers) g (same_function_type t type))))
       (slice_get_past (functions m) f (omega (arith, h, functions-count m)));
@@ -121,7 +120,7 @@ picked-is {M = M} means K m a s type has f same e q b =
     )
 
 pub picked-mismatch : {A V M : Type 0} (H : A → V → Type 0) (means : A → V → M) (K : Kind M) (m : Module) (a : A) (s : State (CodeValue V)) (type has : FuncType) (f : ℕ) (same : Bool) → function_type m f ≡ Some has → same ≡ same_function_type has type → same ≡ false →
-    Tells H means m a s s (CodeEnds (CodeTraps Mismatch)) (picked means K m a s type f)
+    Simulates H means m a s s (CodeEnds (CodeTraps Mismatch)) (picked means K m a s type f)
 picked-mismatch {M = M} H means K m a s type has f same e q n = record {
   gives = λ b. let p = picked-is means K m a s type has f same e q b in let c : Config M = configuration (means a) m b (passed s) in
       p.2 ∙ ap (λ x. calling_of_type K m c (drop 1 (own (image (means a) s))) (drop 2 s.answers) p.0 x) n;
@@ -129,7 +128,7 @@ picked-mismatch {M = M} H means K m a s type has f same e q n = record {
 }
 
 pub picked-calls : {A V M : Type 0} (H : A → V → Type 0) (means : A → V → M) (K : Kind M) (m : Module) (a a' : A) (s t : State (CodeValue V)) (type has : FuncType) (f : ℕ) (same : Bool) (r : CodeNext V) → function_type m f ≡ Some has → same ≡ same_function_type has type → same ≡ true →
-    Tells H means m a' s t r (function_says means K m a s f 1 2) → Tells H means m a' s t r (picked means K m a s type f)
+    Simulates H means m a' s t r (function_says means K m a s f 1 2) → Simulates H means m a' s t r (picked means K m a s type f)
 picked-calls {M = M} H means K m a a' s t type has f same r e q n tells = record {
   gives = λ b. let p = picked-is means K m a s type has f same e q b in let c : Config M = configuration (means a) m b (passed s) in
       p.2 ∙ ap (λ x. calling_of_type K m c (drop 1 (own (image (means a) s))) (drop 2 s.answers) p.0 x) n ∙
@@ -221,15 +220,15 @@ indirect-at means K m a s ty x type size index ns h i o p says e b =
 abbrev pub referring : {A V M : Type 0} → (A → V → M) → Kind M → Module → A → State (CodeValue V) → FuncType → CodeReference → List M → Next M
 referring means K m a s type r b = calling_reference K m (configuration (means a) m b (passed s)) (drop 1 (own (image (means a) s))) (drop 2 s.answers) type (reference r)
 
-pub reference-extern : {A V M : Type 0} (H : A → V → Type 0) (means : A → V → M) (K : Kind M) (m : Module) (a : A) (s : State (CodeValue V)) (type : FuncType) (r : CodeReference) → r ≡ Extern → Tells H means m a s s (CodeEnds CodeStuck) (referring means K m a s type r)
+pub reference-extern : {A V M : Type 0} (H : A → V → Type 0) (means : A → V → M) (K : Kind M) (m : Module) (a : A) (s : State (CodeValue V)) (type : FuncType) (r : CodeReference) → r ≡ Extern → Simulates H means m a s s (CodeEnds CodeStuck) (referring means K m a s type r)
 reference-extern H means K m a s type r e = record { gives = λ b. ap (λ r. referring means K m a s type r b) e; after = tt }
 
 pub reference-null : {A V M : Type 0} (H : A → V → Type 0) (means : A → V → M) (K : Kind M) (m : Module) (a : A) (s : State (CodeValue V)) (type : FuncType) (r : CodeReference) (o : Option ℕ) → r ≡ Func o → o ≡ None →
-    Tells H means m a s s (CodeEnds (CodeTraps Uninitialized)) (referring means K m a s type r)
+    Simulates H means m a s s (CodeEnds (CodeTraps Uninitialized)) (referring means K m a s type r)
 reference-null H means K m a s type r o e f = record { gives = λ b. ap (λ r. referring means K m a s type r b) (e ∙ ap (λ o. Func o) f); after = tt }
 
 pub reference-function : {A V M : Type 0} (H : A → V → Type 0) (means : A → V → M) (K : Kind M) (m : Module) (a a' : A) (s t : State (CodeValue V)) (type : FuncType) (r : CodeReference) (o : Option ℕ) (f : ℕ) (x : CodeNext V) → r ≡ Func o → o ≡ Some f →
-    Tells H means m a' s t x (picked means K m a s type f) → Tells H means m a' s t x (referring means K m a s type r)
+    Simulates H means m a' s t x (picked means K m a s type f) → Simulates H means m a' s t x (referring means K m a s type r)
 reference-function H means K m a a' s t type r o f x e g tells = record { gives = λ b. ap (λ r. referring means K m a s type r b) (e ∙ ap (λ o. Func o) g) ∙ tells.gives b; after = tells.after }
 
 -- what the questions of the index say
@@ -253,7 +252,7 @@ indirect-lacks H means K m a a' s ty x type size index ns i p says e =
     trap-acts H means K m (CallIndirect ty x) a a' s s Undefined (λ b. indirect-at means K m a s ty x type size index ns (means a') i None p says e b)
 
 pub indirect-calls : {A V M : Type 0} (H : A → V → Type 0) (means : A → V → M) (K : Kind M) (m : Module) (a a' a'' : A) (s t : State (CodeValue V)) (ty x : ℕ) (type : FuncType) (size : ℕ) (index : V) (ns : List ℕ) (i : ℕ) (r : CodeReference) (y : CodeNext V) →
-    Indirect m s ty x type size index ns → a' ≡ a → IndexSays means K a a' index size ns (At i) → Some r ≡ slice_get (list_at s.tables x) i → Tells H means m a'' s t y (referring means K m a' s type r) → Acts H means K m (CallIndirect ty x) a s a'' t y
+    Indirect m s ty x type size index ns → a' ≡ a → IndexSays means K a a' index size ns (At i) → Some r ≡ slice_get (list_at s.tables x) i → Simulates H means m a'' s t y (referring means K m a' s type r) → Acts H means K m (CallIndirect ty x) a s a'' t y
 indirect-calls H means K m a a' a'' s t ty x type size index ns i r y p same says e tells = record {
   gives = λ b. indirect-at means K m a s ty x type size index ns (means a') i (Some r) p says e b ∙ ap (λ a. referring means K m a s type r b) (sym same) ∙ tells.gives b;
   after = tells.after;

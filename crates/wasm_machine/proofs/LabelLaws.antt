@@ -8,15 +8,15 @@ use Rattle.wasm_ast.specs.declared.instructions.Instr.{Instr}
 use Rattle.wasm_reduction.specs.Configurations.{Value}
 use Rattle.wasm_machine.specs.declared.machine.Label.{Label as CodeLabel}
 use Rattle.wasm_machine.specs.declared.machine.Frame.{Frame as CodeFrame}
-use Rattle.wasm_machine.specs.States.{State}
-use Rattle.wasm_machine.specs.Moves.{own, from_end}
-use Rattle.wasm_machine.specs.Configurations.{labels_of, waiting, Short, Lies}
+use Rattle.wasm_machine.specs.States.{State, own}
+use Rattle.wasm_machine.specs.code.Moves.{from_end}
+use Rattle.wasm_machine.specs.Configurations.{labels_of, enclosing_labels, Short, IsWellFormed}
 use Rattle.wasm_machine.proofs.Lists.{take_more_at}
 use Rattle.wasm_machine.proofs.Steps.{fall-floor, length-own, target, target-low}
 
 -- the last label of a frame
-waiting_more : (p : CodeFrame) (here : CodeLabel) (labels : List CodeLabel) (k : ℕ) → p.labels + k < length labels → waiting p (take (length labels - k) labels) ≡ from_end here labels (k + 1) ∷ waiting p (take (length labels - (k + 1)) labels)
-waiting_more p here labels k h =
+enclosing_more : (p : CodeFrame) (here : CodeLabel) (labels : List CodeLabel) (k : ℕ) → p.labels + k < length labels → enclosing_labels p (take (length labels - k) labels) ≡ from_end here labels (k + 1) ∷ enclosing_labels p (take (length labels - (k + 1)) labels)
+enclosing_more p here labels k h =
     let j = length labels - (k + 1) in
     let one : k + 1 ≡ suc k = omega arith in
     let up : length labels - k ≡ j + 1 = omega arith in
@@ -33,47 +33,47 @@ target-suc (suc k) here (q ∷ qs) t p ps e = target-suc k q qs t p ps e
 
 -- what a branch past k labels meets
 pub targets : (p : CodeFrame) (labels : List CodeLabel) (k : ℕ) → p.labels + k < length labels →
-    target p.here (waiting p labels) k ≡ (from_end p.here labels k, from_end p.here labels (k + 1) ∷ waiting p (take (length labels - (k + 1)) labels))
+    target p.here (enclosing_labels p labels) k ≡ (from_end p.here labels k, from_end p.here labels (k + 1) ∷ enclosing_labels p (take (length labels - (k + 1)) labels))
 targets p labels zero h =
     let all : length labels - 0 ≡ length labels = omega arith in
-    ap (λ ks. target p.here (waiting p ks) 0) (sym (take-length labels) ∙ ap (λ n. take n labels) (sym all)) ∙ ap (λ ks. target p.here ks 0) (waiting_more p p.here labels 0 h)
+    ap (λ ks. target p.here (enclosing_labels p ks) 0) (sym (take-length labels) ∙ ap (λ n. take n labels) (sym all)) ∙ ap (λ ks. target p.here ks 0) (enclosing_more p p.here labels 0 h)
 targets p labels (suc k) h =
     let one : k + 1 ≡ suc k = omega arith in
     let e = targets p labels k (omega arith) in
-    let f : waiting p (take (length labels - suc k) labels) ≡ from_end p.here labels (suc k + 1) ∷ waiting p (take (length labels - (suc k + 1)) labels) = waiting_more p p.here labels (suc k) (omega arith) in
-    target-suc k p.here (waiting p labels) _ _ _ e ∙ ap (λ n. (from_end p.here labels n, waiting p (take (length labels - n) labels))) one ∙ ap (λ ks. (from_end p.here labels (suc k), ks)) f
+    let f : enclosing_labels p (take (length labels - suc k) labels) ≡ from_end p.here labels (suc k + 1) ∷ enclosing_labels p (take (length labels - (suc k + 1)) labels) = enclosing_more p p.here labels (suc k) (omega arith) in
+    target-suc k p.here (enclosing_labels p labels) _ _ _ e ∙ ap (λ n. (from_end p.here labels n, enclosing_labels p (take (length labels - n) labels))) one ∙ ap (λ ks. (from_end p.here labels (suc k), ks)) f
 
 -- a branch past all waiting labels of a frame
-pub target_last : (p : CodeFrame) (labels : List CodeLabel) (k : ℕ) → p.labels + k ≡ length labels → target p.here (waiting p labels) k ≡ (from_end p.here labels k, [])
+pub target_last : (p : CodeFrame) (labels : List CodeLabel) (k : ℕ) → p.labels + k ≡ length labels → target p.here (enclosing_labels p labels) k ≡ (from_end p.here labels k, [])
 target_last p labels zero h = rw (drop_all p.labels labels (omega arith))
 target_last p labels (suc k) h =
     let one : k + 1 ≡ suc k = omega arith in
     let e = targets p labels k (omega arith) in
-    let none : waiting p (take (length labels - suc k) labels) ≡ [] = ap (λ l. reverse l) (drop_all p.labels (take (length labels - suc k) labels) (omega (arith, length-take-le (length labels - suc k) labels (omega arith)))) in
-    target-suc k p.here (waiting p labels) _ _ _ e ∙ ap (λ n. (from_end p.here labels n, waiting p (take (length labels - n) labels))) one ∙ ap (λ ks. (from_end p.here labels (suc k), ks)) none
+    let none : enclosing_labels p (take (length labels - suc k) labels) ≡ [] = ap (λ l. reverse l) (drop_all p.labels (take (length labels - suc k) labels) (omega (arith, length-take-le (length labels - suc k) labels (omega arith)))) in
+    target-suc k p.here (enclosing_labels p labels) _ _ _ e ∙ ap (λ n. (from_end p.here labels n, enclosing_labels p (take (length labels - n) labels))) one ∙ ap (λ ks. (from_end p.here labels (suc k), ks)) none
 
-pub length-waiting : (p : CodeFrame) (labels : List CodeLabel) → length (waiting p labels) ≡ length labels - p.labels
-length-waiting p labels = length-reverse (drop p.labels labels) ∙ length-drop p.labels labels
+pub length-enclosing : (p : CodeFrame) (labels : List CodeLabel) → length (enclosing_labels p labels) ≡ length labels - p.labels
+length-enclosing p labels = length-reverse (drop p.labels labels) ∙ length-drop p.labels labels
 
 pub length-labels : {W : Type 0} (code : ℕ → List Instr) (ks : List CodeLabel) (ops : List (Value W)) → length (labels_of code ks ops) ≡ length ks
 length-labels code [] ops = refl
 length-labels code (k ∷ ks) ops = omega (arith, length-labels code ks (take k.height ops))
 
 -- the label of a branch lies no higher than the innermost one
-pub label-low : {X : Type 0} (s : State X) (k : ℕ) → Lies s → s.frame.labels + k ≤ length s.labels → (from_end s.frame.here s.labels k).height ≤ s.frame.here.height
+pub label-low : {X : Type 0} (s : State X) (k : ℕ) → IsWellFormed s → s.frame.labels + k ≤ length s.labels → (from_end s.frame.here s.labels k).height ≤ s.frame.here.height
 label-low s k l within =
-    let low : (target s.frame.here (waiting s.frame s.labels) k).0.height ≤ s.frame.here.height = target-low s.frame.floor k s.frame.here (waiting s.frame s.labels) l.frame.falls in
-    let e : (target s.frame.here (waiting s.frame s.labels) k).0 ≡ from_end s.frame.here s.labels k =
+    let low : (target s.frame.here (enclosing_labels s.frame s.labels) k).0.height ≤ s.frame.here.height = target-low s.frame.floor k s.frame.here (enclosing_labels s.frame s.labels) l.frame.falls in
+    let e : (target s.frame.here (enclosing_labels s.frame s.labels) k).0 ≡ from_end s.frame.here s.labels k =
     elim (eq-or-lt_of_le within) [ inl q ↦ ap (λ x. x.0) (target_last s.frame s.labels k q) | inr q ↦ ap (λ x. x.0) (targets s.frame s.labels k q) ] in
     omega (arith, low, ap (λ t. t.height) e)
 
 -- there is room for what a branch carries
-pub branch-room : {X : Type 0} (s : State X) (k : ℕ) → Lies s → s.frame.labels + k ≤ length s.labels → (from_end s.frame.here s.labels k).arity ≤ length (own s) →
+pub branch-room : {X : Type 0} (s : State X) (k : ℕ) → IsWellFormed s → s.frame.labels + k ≤ length s.labels → (from_end s.frame.here s.labels k).arity ≤ length (own s) →
     (from_end s.frame.here s.labels k).height + (from_end s.frame.here s.labels k).arity ≤ length s.operands
 branch-room s k l within n = omega (arith, label-low s k l within, n, length-own s, l.frame.height)
 
-pub back-room : {X : Type 0} (s : State X) (n : ℕ) → Lies s → n ≤ length (own s) → s.frame.floor + n ≤ length s.operands
-back-room s n l h = omega (arith, fall-floor s.frame.floor (waiting s.frame s.labels) s.frame.here.height l.frame.falls, length-own s, l.frame.height, h)
+pub back-room : {X : Type 0} (s : State X) (n : ℕ) → IsWellFormed s → n ≤ length (own s) → s.frame.floor + n ≤ length s.operands
+back-room s n l h = omega (arith, fall-floor s.frame.floor (enclosing_labels s.frame s.labels) s.frame.here.height l.frame.falls, length-own s, l.frame.height, h)
 
 short-get : (ps : List CodeLabel) (j : ℕ) (d : CodeLabel) → Short ps → j < length ps → (unwrap_or (slice_get ps j) d).place + 1 < 2 ^ 64
 short-get [] j d h k = absurd (omega arith)

@@ -20,3 +20,4 @@ pub mod MemoryLaws
 pub mod TableLaws
 pub mod DropLaws
 pub mod StepLaws
+pub mod BoundLaws

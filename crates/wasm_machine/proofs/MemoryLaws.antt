@@ -24,13 +24,13 @@ use Rattle.wasm_machine.specs.declared.progress.Progress.TheVariants.{At}
 use Rattle.wasm_machine.specs.declared.ranges.FillRange.{FillRange}
 use Rattle.wasm_machine.specs.declared.ranges.CopyRange.{CopyRange}
 use Rattle.wasm_machine.specs.declared.ranges.Growth.{Growth}
-use Rattle.wasm_machine.specs.States.{State}
-use Rattle.wasm_machine.specs.Moves.{own, passed, pushed, without, replaced}
+use Rattle.wasm_machine.specs.States.{State, own, passed}
+use Rattle.wasm_machine.specs.code.Moves.{pushed, without, replaced}
 use Rattle.wasm_machine.specs.Values.{valued as code_valued}
 use Rattle.wasm_machine.specs.Configurations.{image, configuration, datas_of}
 use Rattle.wasm_machine.specs.Acts.{Sane, ActsOn}
-use Rattle.wasm_machine.specs.Reached.{grows}
-use Rattle.wasm_machine.specs.Comings.{came_to, IfCame}
+use Rattle.wasm_machine.specs.code.RangeProgress.{grows}
+use Rattle.wasm_machine.specs.code.InstructionProgress.{came_to, IfCame}
 use Rattle.wasm_machine.proofs.Images.{valued-image, valued-held}
 use Rattle.wasm_machine.proofs.ActLaws.{acting}
 use Rattle.wasm_machine.proofs.ProgressLaws.{Found}

@@ -21,11 +21,11 @@ use Rattle.wasm_machine.specs.declared.next.Next.TheVariants.{Goes as CodeGoes, 
 use Rattle.wasm_machine.specs.declared.next.End.TheVariants.{Stuck as CodeStuck}
 use Rattle.wasm_machine.specs.declared.numeric.Check.{Check}
 use Rattle.wasm_machine.specs.declared.numeric.Check.TheVariants.{AskZero, AskOverflow, DivZero, Overflow, Fine}
-use Rattle.wasm_machine.specs.States.{State}
-use Rattle.wasm_machine.specs.Moves.{own, passed, replaced}
+use Rattle.wasm_machine.specs.States.{State, own, passed}
+use Rattle.wasm_machine.specs.code.Moves.{replaced}
 use Rattle.wasm_machine.specs.Values.{word_at, valued as code_valued}
 use Rattle.wasm_machine.specs.Configurations.{image, configuration}
-use Rattle.wasm_machine.specs.Divisions.{check_of}
+use Rattle.wasm_machine.specs.code.Divisions.{check_of}
 use Rattle.wasm_machine.specs.Acts.{Sane, Ready, Acts}
 use Rattle.wasm_machine.proofs.Images.{own-held, word_at-held, word_at-wide, word_at-some, valued-image, valued-held}
 use Rattle.int_ops.specs.Integers.{least, minus_one}

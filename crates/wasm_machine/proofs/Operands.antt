@@ -6,8 +6,7 @@ use Rattle.wasm_reduction.specs.Combinators.{with_found, with_value, with_word, 
 use Rattle.wasm_machine.specs.declared.values.Reference.{Reference as CodeReference}
 use Rattle.wasm_machine.specs.declared.values.Value.{Value as CodeValue}
 use Rattle.wasm_machine.specs.declared.values.Value.TheVariants.{I32 as CodeI32, I64 as CodeI64, Ref as CodeRef}
-use Rattle.wasm_machine.specs.States.{State}
-use Rattle.wasm_machine.specs.Moves.{own}
+use Rattle.wasm_machine.specs.States.{State, own}
 use Rattle.wasm_machine.specs.Values.{reference, value, word_at, reference_at}
 use Rattle.wasm_machine.specs.Configurations.{image}
 use Rattle.wasm_machine.proofs.Images.{own-image, word-image}

@@ -16,11 +16,11 @@ use Rattle.wasm_machine.specs.declared.next.Question.TheVariants.{Test as CodeTe
 use Rattle.wasm_machine.specs.declared.next.Next.{Next as CodeNext}
 use Rattle.wasm_machine.specs.declared.next.Next.TheVariants.{Goes as CodeGoes, Asks as CodeAsks, Ends as CodeEnds}
 use Rattle.wasm_machine.specs.declared.next.End.TheVariants.{Stuck as CodeStuck}
-use Rattle.wasm_machine.specs.States.{State}
-use Rattle.wasm_machine.specs.Moves.{own, passed, without, replaced}
+use Rattle.wasm_machine.specs.States.{State, own, passed}
+use Rattle.wasm_machine.specs.code.Moves.{without, replaced}
 use Rattle.wasm_machine.specs.Values.{reference, value, word_of as code_word, reference_of as code_reference, valued as code_valued, word_at, ValueHeld}
 use Rattle.wasm_machine.specs.Configurations.{image, configuration}
-use Rattle.wasm_machine.specs.Selects.{Three, by_answer}
+use Rattle.wasm_machine.specs.code.SelectOperands.{SelectOperands, by_answer}
 use Rattle.wasm_machine.specs.Acts.{Sane, Acts}
 use Rattle.wasm_machine.proofs.Images.{kept-same, valued-image, valued-held}
 use Rattle.wasm_machine.proofs.NumericLaws.{own-within}
@@ -63,14 +63,14 @@ select-lacks-second H means K m a s w e f = stuck-acts H means K m Select a a s 
 pub select-lacks-first : {A V M : Type 0} (H : A → V → Type 0) (means : A → V → M) (K : Kind M) (m : Module) (a : A) (s : State (CodeValue V)) (w : V) (v : CodeValue V) → Some w ≡ word_at false (own s) 0 → Some v ≡ slice_get (own s) 1 → None ≡ slice_get (own s) 2 → Acts H means K m Select a s a s (CodeEnds CodeStuck)
 select-lacks-first H means K m a s w v e f g = stuck-acts H means K m Select a a s s (λ b. found-word (means a) s false 0 w _ e ∙ found-value (means a) s 1 v _ f ∙ no-value (means a) s 2 _ g)
 
-pub select-is : {A V M : Type 0} (means : A → V → M) (K : Kind M) (m : Module) (a : A) (s : State (CodeValue V)) (w : V) (first second : CodeValue V) → Three s w first second → (b : List M) →
+pub select-is : {A V M : Type 0} (means : A → V → M) (K : Kind M) (m : Module) (a : A) (s : State (CodeValue V)) (w : V) (first second : CodeValue V) → SelectOperands s w first second → (b : List M) →
     acting means K m Select a s b ≡ selecting K (configuration (means a) m b (passed s)) (drop 3 (own (image (means a) s))) s.answers (means a w) (value (means a) first) (value (means a) second)
 select-is means K m a s w first second t b = found-word (means a) s false 0 w _ t.condition ∙ found-value (means a) s 1 second _ t.second_is ∙ found-value (means a) s 2 first _ t.first_is
 
-three-there : {V : Type 0} (s : State (CodeValue V)) (w : V) (first second : CodeValue V) → Three s w first second → 3 ≤ length (own s)
+three-there : {V : Type 0} (s : State (CodeValue V)) (w : V) (first second : CodeValue V) → SelectOperands s w first second → 3 ≤ length (own s)
 three-there s w first second t = omega (arith, slice_get_within (own s) 2 first (sym t.first_is))
 
-pub select-puts : {A V M : Type 0} (H : A → V → Type 0) (means : A → V → M) (K : Kind M) (m : Module) (a a' : A) → Kept H means a a' → (s p t : State (CodeValue V)) (w : V) (first second v : CodeValue V) → Sane H a s → Three s w first second →
+pub select-puts : {A V M : Type 0} (H : A → V → Type 0) (means : A → V → M) (K : Kind M) (m : Module) (a a' : A) → Kept H means a a' → (s p t : State (CodeValue V)) (w : V) (first second v : CodeValue V) → Sane H a s → SelectOperands s w first second →
     ((c : Config M) (rest : List (Value M)) → selecting K c rest s.answers (means a w) (value (means a) first) (value (means a) second) ≡ Goes (holding c (value (means a') v ∷ rest))) →
     ValueHeld (H a') v → p ≡ passed s → t ≡ replaced 3 v p → Acts H means K m Select a s a' t CodeGoes
 select-puts H means K m a a' k s p t w first second v sane three f held d r =
@@ -96,12 +96,12 @@ unlike-words h K c rest ns w true x (CodeI64 z) e = cc
 unlike-words h K c rest ns w false x (CodeRef r) e = refl
 unlike-words h K c rest ns w true x (CodeRef r) e = refl
 
-pub word-unlike : {A V M : Type 0} (H : A → V → Type 0) (means : A → V → M) (K : Kind M) (m : Module) (a : A) (s : State (CodeValue V)) (w : V) (wide : Bool) (x : V) (second : CodeValue V) → Three s w (code_valued wide x) second → None ≡ code_word wide second →
+pub word-unlike : {A V M : Type 0} (H : A → V → Type 0) (means : A → V → M) (K : Kind M) (m : Module) (a : A) (s : State (CodeValue V)) (w : V) (wide : Bool) (x : V) (second : CodeValue V) → SelectOperands s w (code_valued wide x) second → None ≡ code_word wide second →
     Acts H means K m Select a s a s (CodeEnds CodeStuck)
 word-unlike H means K m a s w wide x second three e = stuck-acts H means K m Select a a s s (λ b. select-is means K m a s w (code_valued wide x) second three b ∙
     unlike-words (means a) K (configuration (means a) m b (passed s)) (drop 3 (own (image (means a) s))) s.answers (means a w) wide x second e)
 
-pub word-chosen : {A V M : Type 0} (H : A → V → Type 0) (means : A → V → M) (K : Kind M) (m : Module) (a a' : A) → Kept H means a a' → (s p t : State (CodeValue V)) (w : V) (wide : Bool) (x y z : V) (second : CodeValue V) → Sane H a s → Three s w (code_valued wide x) second → Some y ≡ code_word wide second →
+pub word-chosen : {A V M : Type 0} (H : A → V → Type 0) (means : A → V → M) (K : Kind M) (m : Module) (a a' : A) → Kept H means a a' → (s p t : State (CodeValue V)) (w : V) (wide : Bool) (x y z : V) (second : CodeValue V) → Sane H a s → SelectOperands s w (code_valued wide x) second → Some y ≡ code_word wide second →
     H a' z → means a' z ≡ K.choose wide (means a w) (means a x) (means a y) → p ≡ passed s → t ≡ replaced 3 (code_valued wide z) p → Acts H means K m Select a s a' t CodeGoes
 word-chosen H means K m a a' k s p t w wide x y z second sane three e held is d r =
     select-puts H means K m a a' k s p t w (code_valued wide x) second (code_valued wide z) sane three
@@ -116,7 +116,7 @@ valued-word s k true x e = ap (λ o. option_and_then (code_word true) o) e
 pub other-word : {V : Type 0} (s : State (CodeValue V)) (k : ℕ) (wide : Bool) (y : V) (v : CodeValue V) → Some v ≡ slice_get (own s) k → Some y ≡ code_word wide v → Some y ≡ word_at wide (own s) k
 other-word s k wide y v e f = f ∙ ap (λ o. option_and_then (code_word wide) o) e
 
-pub three-within : {V : Type 0} (s p : State (CodeValue V)) (w : V) (first second : CodeValue V) → Three s w first second → p ≡ passed s → 3 ≤ length p.operands
+pub three-within : {V : Type 0} (s p : State (CodeValue V)) (w : V) (first second : CodeValue V) → SelectOperands s w first second → p ≡ passed s → 3 ≤ length p.operands
 three-within s p w first second three e = own-within s p 3 e (three-there s w first second three)
 
 -- ---- of two references
@@ -131,15 +131,15 @@ unlike-reference h K c rest ns w r (CodeI32 x) e = refl
 unlike-reference h K c rest ns w r (CodeI64 x) e = refl
 unlike-reference h K c rest ns w r (CodeRef q) e = cc
 
-pub reference-unlike : {A V M : Type 0} (H : A → V → Type 0) (means : A → V → M) (K : Kind M) (m : Module) (a : A) (s : State (CodeValue V)) (w : V) (r : CodeReference) (second : CodeValue V) → Three s w (CodeRef r) second → None ≡ code_reference second →
+pub reference-unlike : {A V M : Type 0} (H : A → V → Type 0) (means : A → V → M) (K : Kind M) (m : Module) (a : A) (s : State (CodeValue V)) (w : V) (r : CodeReference) (second : CodeValue V) → SelectOperands s w (CodeRef r) second → None ≡ code_reference second →
     Acts H means K m Select a s a s (CodeEnds CodeStuck)
 reference-unlike H means K m a s w r second three e = stuck-acts H means K m Select a a s s (λ b. select-is means K m a s w (CodeRef r) second three b ∙
     unlike-reference (means a) K (configuration (means a) m b (passed s)) (drop 3 (own (image (means a) s))) s.answers (means a w) r second e)
 
-three-references : {V : Type 0} (s : State (CodeValue V)) (w : V) (first r : CodeReference) (second : CodeValue V) → Three s w (CodeRef first) second → Some r ≡ code_reference second → Three s w (CodeRef first) (CodeRef r)
-three-references s w first r second three e = subst (λ v. Three s w (CodeRef first) v) (other-reference r second e) three
+three-references : {V : Type 0} (s : State (CodeValue V)) (w : V) (first r : CodeReference) (second : CodeValue V) → SelectOperands s w (CodeRef first) second → Some r ≡ code_reference second → SelectOperands s w (CodeRef first) (CodeRef r)
+three-references s w first r second three e = subst (λ v. SelectOperands s w (CodeRef first) v) (other-reference r second e) three
 
-pub select-asks : {A V M : Type 0} (H : A → V → Type 0) (means : A → V → M) (K : Kind M) (m : Module) (a : A) (s : State (CodeValue V)) (w : V) (first other : CodeReference) (second : CodeValue V) → Sane H a s → Three s w (CodeRef first) second → Some other ≡ code_reference second → H a w →
+pub select-asks : {A V M : Type 0} (H : A → V → Type 0) (means : A → V → M) (K : Kind M) (m : Module) (a : A) (s : State (CodeValue V)) (w : V) (first other : CodeReference) (second : CodeValue V) → Sane H a s → SelectOperands s w (CodeRef first) second → Some other ≡ code_reference second → H a w →
     None ≡ slice_get s.answers 0 → Acts H means K m Select a s a s (CodeAsks CodeTest w)
 select-asks H means K m a s w first other second sane three o held e =
     ask-acts H means K m Select a a (kept-same H means a) s CodeTest w sane held (λ b. select-is means K m a s w (CodeRef first) (CodeRef other) (three-references s w first other second three o) b ∙ testing-asks (means a w) s.answers _ _ e)
@@ -152,7 +152,7 @@ one-of c rest w (zero ∷ ns) (suc n) first other e = cc
 one-of c rest w (suc k ∷ ns) zero first other e = cc
 one-of c rest w (suc k ∷ ns) (suc n) first other e = refl
 
-pub select-refers : {A V M : Type 0} (H : A → V → Type 0) (means : A → V → M) (K : Kind M) (m : Module) (a : A) (s p t : State (CodeValue V)) (w : V) (first other r : CodeReference) (second : CodeValue V) (n : ℕ) → Sane H a s → Three s w (CodeRef first) second → Some other ≡ code_reference second →
+pub select-refers : {A V M : Type 0} (H : A → V → Type 0) (means : A → V → M) (K : Kind M) (m : Module) (a : A) (s p t : State (CodeValue V)) (w : V) (first other r : CodeReference) (second : CodeValue V) (n : ℕ) → Sane H a s → SelectOperands s w (CodeRef first) second → Some other ≡ code_reference second →
     Some n ≡ slice_get s.answers 0 → r ≡ by_answer n other first → p ≡ passed s → t ≡ replaced 3 (CodeRef r) p → Acts H means K m Select a s a t CodeGoes
 select-refers H means K m a s p t w first other r second n sane three o e q d i =
     select-puts H means K m a a (kept-same H means a) s p t w (CodeRef first) (CodeRef other) (CodeRef r) sane (three-references s w first other second three o)

@@ -11,12 +11,11 @@ use Rattle.wasm_machine.specs.declared.values.Value.{Value as CodeValue}
 use Rattle.wasm_machine.specs.declared.ranges.Reached.{Reached}
 use Rattle.wasm_machine.specs.declared.ranges.FillRange.{FillRange}
 use Rattle.wasm_machine.specs.declared.ranges.CopyRange.{CopyRange}
-use Rattle.wasm_machine.specs.States.{State}
-use Rattle.wasm_machine.specs.Moves.{own}
+use Rattle.wasm_machine.specs.States.{State, own}
 use Rattle.wasm_machine.specs.Values.{reference, word_at, reference_at}
 use Rattle.wasm_machine.specs.Configurations.{image}
 use Rattle.wasm_machine.specs.Acts.{Ready}
-use Rattle.wasm_machine.specs.Reached.{reached}
+use Rattle.wasm_machine.specs.code.RangeProgress.{reached}
 use Rattle.wasm_machine.proofs.Images.{own-held, word_at-held, word_at-wide, word_at-some, reference_at-some}
 use Rattle.wasm_machine.proofs.Operands.{found-word, no-word, found-reference, no-reference}
 

@@ -14,8 +14,8 @@ use Rattle.wasm_machine.specs.declared.values.Value.{Value as CodeValue}
 use Rattle.wasm_machine.specs.declared.values.Value.TheVariants.{I32 as CodeI32, Ref as CodeRef}
 use Rattle.wasm_machine.specs.declared.next.Next.TheVariants.{Goes as CodeGoes, Ends as CodeEnds}
 use Rattle.wasm_machine.specs.declared.next.End.TheVariants.{Stuck as CodeStuck}
-use Rattle.wasm_machine.specs.States.{State}
-use Rattle.wasm_machine.specs.Moves.{own, passed, pushed, replaced}
+use Rattle.wasm_machine.specs.States.{State, own, passed}
+use Rattle.wasm_machine.specs.code.Moves.{pushed, replaced}
 use Rattle.wasm_machine.specs.Values.{reference, reference_at}
 use Rattle.wasm_machine.specs.Configurations.{image, configuration}
 use Rattle.wasm_machine.specs.Acts.{Sane, Acts}

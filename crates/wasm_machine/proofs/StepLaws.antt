@@ -17,13 +17,12 @@ use Rattle.wasm_machine.specs.declared.values.Reference.{Reference as CodeRefere
 use Rattle.wasm_machine.specs.declared.values.Value.{Value as CodeValue}
 use Rattle.wasm_machine.specs.declared.next.Next.{Next as CodeNext}
 use Rattle.wasm_machine.specs.declared.next.Next.TheVariants.{Goes as CodeGoes, Draws as CodeDraws, Asks as CodeAsks, Ends as CodeEnds}
-use Rattle.wasm_machine.specs.States.{State}
-use Rattle.wasm_machine.specs.Moves.{own}
+use Rattle.wasm_machine.specs.States.{State, own}
 use Rattle.wasm_machine.specs.Values.{reference, value}
 use Rattle.wasm_machine.specs.Configurations.{code_of, outer_call_of, config_of, image, configuration}
 use Rattle.wasm_machine.specs.Stores.{TablesSmall, CellsReady}
 use Rattle.wasm_machine.specs.Acts.{IsNext, told, Acts, BytesAfter, ActsOn}
-use Rattle.wasm_machine.specs.Says.{Says}
+use Rattle.wasm_machine.specs.code.Simulation.{SimulatesWithoutAsking}
 use Rattle.wasm_machine.specs.Steps.{Steps, StepsAnyhow}
 use Rattle.wasm_machine.proofs.Lists.{drop_at_some, drop_at_none}
 use Rattle.wasm_machine.proofs.Steps.{config_of-passed}
@@ -123,7 +122,7 @@ next-steps H means K m i a a' s t b d x n r =
 -- ---- the end of a label
 
 pub end-steps : {A V M : Type 0} (H : A → V → Type 0) (means : A → V → M) (K : Kind M) (m : Module) (a : A) (s t : State (CodeValue V)) (b : List V) (x : CodeNext V) (f : ℕ) → s.frame.func ≡ Some f → slice_get (code_of m s.entry (Some f) s.frame.here.seq) s.frame.here.place ≡ None → AllByRecursion (H a) b →
-    Says H means m a t x (λ b. finish (configuration (means a) m b s) (own (image (means a) s)) (configuration (means a) m b s).frame.outer) → Steps H means K m a s b a t b x
+    SimulatesWithoutAsking H means m a t x (λ b. finish (configuration (means a) m b s) (own (image (means a) s)) (configuration (means a) m b s).frame.outer) → Steps H means K m a s b a t b x
 end-steps H means K m a s t b x f e g held r =
     let S = image (means a) s in
     let B = map (means a) b in
@@ -166,7 +165,7 @@ call-steps H means K m a a' s t f x e g r =
     }
 
 pub over-steps : {A V M : Type 0} (H : A → V → Type 0) (means : A → V → M) (K : Kind M) (m : Module) (a : A) (s t : State (CodeValue V)) (x : CodeNext V) → s.frame.func ≡ None → None ≡ outer_call_of m.start s.entry s.frame.here.place →
-    Says H means m a t x (λ b. finish (configuration (means a) m b s) (own (image (means a) s)) (configuration (means a) m b s).frame.outer) → StepsAnyhow H means K m a s a t x
+    SimulatesWithoutAsking H means m a t x (λ b. finish (configuration (means a) m b s) (own (image (means a) s)) (configuration (means a) m b s).frame.outer) → StepsAnyhow H means K m a s a t x
 over-steps H means K m a s t x e g r =
     let none : drop s.frame.here.place (code_of m s.entry s.frame.func s.frame.here.seq) ≡ [] = ap (λ o. drop s.frame.here.place (code_of m s.entry o s.frame.here.seq)) e ∙ outer-none m.start s.entry s.frame.here.place g in
     record { gives = λ b. ap (λ is. step_code K m (configuration (means a) m b s) is) none ∙ r.gives b; after = going-after H a s t x r.going }

@@ -13,9 +13,9 @@ use Rattle.wasm_check.specs.Trees.{seq_of}
 use Rattle.wasm_reduction.specs.Control.{give_back, finish, entering, branch}
 use Rattle.wasm_machine.specs.declared.machine.Label.{Label as CodeLabel}
 use Rattle.wasm_machine.specs.declared.machine.Frame.{Frame as CodeFrame}
-use Rattle.wasm_machine.specs.States.{State}
-use Rattle.wasm_machine.specs.Moves.{pushed, without, replaced, own, cost, passed, with_local, entered, kept, again_place, left, jumped, returned, called}
-use Rattle.wasm_machine.specs.Configurations.{seqs_of, code_of, again_of, label_of, labels_of, waiting, frames_of, config_of, Fall, FramesLie, Short, Lies}
+use Rattle.wasm_machine.specs.States.{State, own, cost, passed}
+use Rattle.wasm_machine.specs.code.Moves.{pushed, without, replaced, with_local, entered, kept, again_place, left, jumped, returned, called}
+use Rattle.wasm_machine.specs.Configurations.{seqs_of, code_of, again_of, label_of, labels_of, enclosing_labels, frames_of, config_of, Fall, AreFramesWellFormed, Short, IsWellFormed}
 use Rattle.wasm_machine.proofs.Lists.{drop-suc, drop_split, take-reverse, drop-reverse, reverse-reverse}
 
 -- the floor is the lowest
@@ -26,17 +26,17 @@ fall-floor floor (k ∷ ks) n h = let l : floor ≤ k.height = fall-floor floor 
 -- ---- operands
 
 -- what is above the height doesn't matter to the frames below
-below : {X : Type 0} (s : State X) (ops : List X) → Lies s → take s.frame.here.height ops ≡ take s.frame.here.height s.operands → take s.frame.floor ops ≡ take s.frame.floor s.operands
+below : {X : Type 0} (s : State X) (ops : List X) → IsWellFormed s → take s.frame.here.height ops ≡ take s.frame.here.height s.operands → take s.frame.floor ops ≡ take s.frame.floor s.operands
 below s ops l e =
-    let low : s.frame.floor ≤ s.frame.here.height = fall-floor s.frame.floor (waiting s.frame s.labels) s.frame.here.height l.frame.falls in
+    let low : s.frame.floor ≤ s.frame.here.height = fall-floor s.frame.floor (enclosing_labels s.frame s.labels) s.frame.here.height l.frame.falls in
     sym (take-take s.frame.floor s.frame.here.height ops low) ∙ ap (λ o. take s.frame.floor o) e ∙ take-take s.frame.floor s.frame.here.height s.operands low
 
-pub config_of-above : {W : Type 0} (m : Module) (b : List W) (s : State (Value W)) (ops : List (Value W)) → Lies s → take s.frame.here.height ops ≡ take s.frame.here.height s.operands →
+pub config_of-above : {W : Type 0} (m : Module) (b : List W) (s : State (Value W)) (ops : List (Value W)) → IsWellFormed s → take s.frame.here.height ops ≡ take s.frame.here.height s.operands →
     config_of m b (record s { operands = ops }) ≡ holding (config_of m b s) (reverse (drop s.frame.here.height ops))
 config_of-above m b s ops l e = rw (e, below s ops l e)
 
-pub lies-above : {X : Type 0} (s : State X) (ops : List X) → Lies s → take s.frame.here.height ops ≡ take s.frame.here.height s.operands → s.frame.here.height ≤ length ops → Lies (record s { operands = ops })
-lies-above s ops l e h = record {
+pub well_formed-above : {X : Type 0} (s : State X) (ops : List X) → IsWellFormed s → take s.frame.here.height ops ≡ take s.frame.here.height s.operands → s.frame.here.height ≤ length ops → IsWellFormed (record s { operands = ops })
+well_formed-above s ops l e h = record {
   frame = record { height = h; falls = l.frame.falls; labels_within = l.frame.labels_within; base_within = l.frame.base_within };
   callers = rw (below s ops l e) l.callers;
   short = l.short;
@@ -46,7 +46,7 @@ pub length-own : {X : Type 0} (s : State X) → length (own s) ≡ length s.oper
 length-own s = length-reverse (drop s.frame.here.height s.operands) ∙ length-drop s.frame.here.height s.operands
 
 -- so many own operands are there
-pub room-own : {X : Type 0} (s : State X) (n : ℕ) → Lies s → n ≤ length (own s) → s.frame.here.height + n ≤ length s.operands
+pub room-own : {X : Type 0} (s : State X) (n : ℕ) → IsWellFormed s → n ≤ length (own s) → s.frame.here.height + n ≤ length s.operands
 room-own s n l h = omega (arith, h, length-own s, l.frame.height)
 
 -- the last n of all operands are the first n of the own ones
@@ -71,30 +71,30 @@ take-cut n s h = take-take s.frame.here.height (length s.operands - n) s.operand
 length-cut : {X : Type 0} (n : ℕ) (xs : List X) → length (take (length xs - n) xs) ≡ length xs - n
 length-cut n xs = length-take-le (length xs - n) xs (omega arith)
 
-pub config_of-pushed : {W : Type 0} (m : Module) (b : List W) (s : State (Value W)) (x : Value W) → Lies s → config_of m b (pushed x s) ≡ holding (config_of m b s) (x ∷ own s)
+pub config_of-pushed : {W : Type 0} (m : Module) (b : List W) (s : State (Value W)) (x : Value W) → IsWellFormed s → config_of m b (pushed x s) ≡ holding (config_of m b s) (x ∷ own s)
 config_of-pushed m b s x l =
     config_of-above m b s (s.operands ++ x ∷ []) l (take-append-le s.frame.here.height s.operands (x ∷ []) l.frame.height) ∙
     ap (λ o. holding (config_of m b s) o) (rw (drop-append-le s.frame.here.height s.operands (x ∷ []) l.frame.height) (reverse-append (drop s.frame.here.height s.operands) (x ∷ [])))
 
-pub lies-pushed : {X : Type 0} (s : State X) (x : X) → Lies s → Lies (pushed x s)
-lies-pushed s x l = lies-above s (s.operands ++ x ∷ []) l (take-append-le s.frame.here.height s.operands (x ∷ []) l.frame.height) (omega (arith, l.frame.height, length-append s.operands (x ∷ [])))
+pub well_formed-pushed : {X : Type 0} (s : State X) (x : X) → IsWellFormed s → IsWellFormed (pushed x s)
+well_formed-pushed s x l = well_formed-above s (s.operands ++ x ∷ []) l (take-append-le s.frame.here.height s.operands (x ∷ []) l.frame.height) (omega (arith, l.frame.height, length-append s.operands (x ∷ [])))
 
-pub config_of-without : {W : Type 0} (m : Module) (b : List W) (s : State (Value W)) (n : ℕ) → Lies s → n ≤ length (own s) → config_of m b (without n s) ≡ holding (config_of m b s) (drop n (own s))
+pub config_of-without : {W : Type 0} (m : Module) (b : List W) (s : State (Value W)) (n : ℕ) → IsWellFormed s → n ≤ length (own s) → config_of m b (without n s) ≡ holding (config_of m b s) (drop n (own s))
 config_of-without m b s n l h =
     let room : s.frame.here.height + n ≤ length s.operands = room-own s n l h in
     config_of-above m b s (take (length s.operands - n) s.operands) l (take-cut n s room) ∙ ap (λ o. holding (config_of m b s) o) (own_rest n s room)
 
-pub lies-without : {X : Type 0} (s : State X) (n : ℕ) → Lies s → n ≤ length (own s) → Lies (without n s)
-lies-without s n l h =
+pub well_formed-without : {X : Type 0} (s : State X) (n : ℕ) → IsWellFormed s → n ≤ length (own s) → IsWellFormed (without n s)
+well_formed-without s n l h =
     let room : s.frame.here.height + n ≤ length s.operands = room-own s n l h in
-    lies-above s (take (length s.operands - n) s.operands) l (take-cut n s room) (omega (arith, room, length-cut n s.operands))
+    well_formed-above s (take (length s.operands - n) s.operands) l (take-cut n s room) (omega (arith, room, length-cut n s.operands))
 
-pub own-without : {X : Type 0} (s : State X) (n : ℕ) → Lies s → n ≤ length (own s) → own (without n s) ≡ drop n (own s)
+pub own-without : {X : Type 0} (s : State X) (n : ℕ) → IsWellFormed s → n ≤ length (own s) → own (without n s) ≡ drop n (own s)
 own-without s n l h = own_rest n s (room-own s n l h)
 
-pub config_of-replaced : {W : Type 0} (m : Module) (b : List W) (s : State (Value W)) (n : ℕ) (x : Value W) → Lies s → n ≤ length (own s) → config_of m b (replaced n x s) ≡ holding (config_of m b s) (x ∷ drop n (own s))
+pub config_of-replaced : {W : Type 0} (m : Module) (b : List W) (s : State (Value W)) (n : ℕ) (x : Value W) → IsWellFormed s → n ≤ length (own s) → config_of m b (replaced n x s) ≡ holding (config_of m b s) (x ∷ drop n (own s))
 config_of-replaced m b s n x l h =
-    config_of-pushed m b (without n s) x (lies-without s n l h) ∙
+    config_of-pushed m b (without n s) x (well_formed-without s n l h) ∙
     ap (λ o. holding (config_of m b (without n s)) (x ∷ o)) (own-without s n l h) ∙
     ap (λ c. holding c (x ∷ drop n (own s))) (config_of-without m b s n l h)
 
@@ -121,8 +121,8 @@ config_of-passed {W = W} m b s i is e =
     (drop-suc s.frame.here.place (code_of m s.entry s.frame.func s.frame.here.seq) i is e) ∙
     ap (λ n. let c : Config W = config_of m b s in let d : Config W = record c { frame = record (c.frame) { here = record (c.frame.here) { code = is } }; answers = []; units = s.units + n } in d) (sym (cost-callers m b s))
 
-pub lies-passed : {X : Type 0} (s : State X) → Lies s → Lies (passed s)
-lies-passed s l = record {
+pub well_formed-passed : {X : Type 0} (s : State X) → IsWellFormed s → IsWellFormed (passed s)
+well_formed-passed s l = record {
   frame = record { height = l.frame.height; falls = l.frame.falls; labels_within = l.frame.labels_within; base_within = l.frame.base_within };
   callers = l.callers;
   short = l.short;
@@ -134,8 +134,8 @@ pub config_of-local : {W : Type 0} (m : Module) (b : List W) (s : State (Value W
     config_of m b (with_local x v s) ≡ with_locals (config_of m b s) (slice_set (config_of m b s).frame.locals x v)
 config_of-local m b s x v = rw (drop-set-add s.frame.base s.locals x v, take-set-le s.frame.base s.locals (s.frame.base + x) v (omega arith))
 
-pub lies-local : {X : Type 0} (s : State X) (x : ℕ) (v : X) → Lies s → length (with_local x v s).locals ≡ length s.locals → Lies (with_local x v s)
-lies-local s x v l long = record {
+pub well_formed-local : {X : Type 0} (s : State X) (x : ℕ) (v : X) → IsWellFormed s → length (with_local x v s).locals ≡ length s.locals → IsWellFormed (with_local x v s)
+well_formed-local s x v l long = record {
   frame = record { height = l.frame.height; falls = l.frame.falls; labels_within = l.frame.labels_within; base_within = omega (arith, long, l.frame.base_within) };
   callers = rw (take-set-le s.frame.base s.locals (s.frame.base + x) v (omega arith)) l.callers;
   short = l.short;
@@ -152,12 +152,12 @@ short-take zero ps h = tt
 short-take (suc n) [] h = tt
 short-take (suc n) (p ∷ ps) h = (h.0, short-take n ps h.1)
 
-pub config_of-entered : {W : Type 0} (m : Module) (b : List W) (s : State (Value W)) (f seq n arity : ℕ) (again : Bool) → Lies s → s.frame.func ≡ Some f → n ≤ length (own s) →
+pub config_of-entered : {W : Type 0} (m : Module) (b : List W) (s : State (Value W)) (f seq n arity : ℕ) (again : Bool) → IsWellFormed s → s.frame.func ≡ Some f → n ≤ length (own s) →
     entering (config_of m b (passed s)) (take n (own s)) (drop n (own s)) arity (again_of (code_of m s.entry s.frame.func) again (s.frame.here ∷ [])) (seq_of (seqs_of m s.frame.func) seq) ≡
     Goes (config_of m b (entered seq n arity again s))
 config_of-entered {W = W} m b s f seq n arity again l func h =
     let room : s.frame.here.height + n ≤ length s.operands = room-own s n l h in
-    let floor : s.frame.floor ≤ length s.operands - n = omega (arith, fall-floor s.frame.floor (waiting s.frame s.labels) s.frame.here.height l.frame.falls) in
+    let floor : s.frame.floor ≤ length s.operands - n = omega (arith, fall-floor s.frame.floor (enclosing_labels s.frame s.labels) s.frame.here.height l.frame.falls) in
     let code : seq_of (seqs_of m s.frame.func) seq ≡ code_of m s.entry s.frame.func seq = rw func refl in
     by again code room floor
   where
@@ -183,8 +183,8 @@ config_of-entered {W = W} m b s f seq n arity again l func h =
       take-cut n s room,
     )
 
-pub lies-entered : {X : Type 0} (s : State X) (seq n arity : ℕ) (again : Bool) → Lies s → n ≤ length (own s) → s.frame.here.place + 1 < 2 ^ 64 → Lies (entered seq n arity again s)
-lies-entered s seq n arity again l h place =
+pub well_formed-entered : {X : Type 0} (s : State X) (seq n arity : ℕ) (again : Bool) → IsWellFormed s → n ≤ length (own s) → s.frame.here.place + 1 < 2 ^ 64 → IsWellFormed (entered seq n arity again s)
+well_formed-entered s seq n arity again l h place =
     let room : s.frame.here.height + n ≤ length s.operands = room-own s n l h in
     let low : s.frame.here.height ≤ length s.operands - n = omega arith in
     record {
@@ -198,11 +198,11 @@ lies-entered s seq n arity again l h place =
       short = short-append s.labels s.frame.here l.short place;
     }
 
-pub config_of-left : {W : Type 0} (m : Module) (b : List W) (s : State (Value W)) (p : CodeLabel) (r : List CodeLabel) → Lies s → s.labels ≡ r ++ p ∷ [] → s.frame.labels ≤ length r →
+pub config_of-left : {W : Type 0} (m : Module) (b : List W) (s : State (Value W)) (p : CodeLabel) (r : List CodeLabel) → IsWellFormed s → s.labels ≡ r ++ p ∷ [] → s.frame.labels ≤ length r →
     finish (config_of m b s) (own s) (config_of m b s).frame.outer ≡ Goes (config_of m b (left p r s))
 config_of-left m b s p r l e k =
-    let labels : waiting s.frame s.labels ≡ p ∷ waiting s.frame r = rw (e, drop-append-le s.frame.labels r (p ∷ []) k, reverse-append (drop s.frame.labels r) (p ∷ [])) in
-    let falls : Fall s.frame.floor (p ∷ waiting s.frame r) s.frame.here.height = subst (λ ks. Fall s.frame.floor ks s.frame.here.height) labels l.frame.falls in
+    let labels : enclosing_labels s.frame s.labels ≡ p ∷ enclosing_labels s.frame r = rw (e, drop-append-le s.frame.labels r (p ∷ []) k, reverse-append (drop s.frame.labels r) (p ∷ [])) in
+    let falls : Fall s.frame.floor (p ∷ enclosing_labels s.frame r) s.frame.here.height = subst (λ ks. Fall s.frame.floor ks s.frame.here.height) labels l.frame.falls in
     let cut : take s.frame.labels s.labels ≡ take s.frame.labels r = rw (e, take-append-le s.frame.labels r (p ∷ []) k) in
     rw (
       labels,
@@ -216,15 +216,15 @@ short-front : (r : List CodeLabel) (p : CodeLabel) → Short (r ++ p ∷ []) →
 short-front [] p h = tt
 short-front (q ∷ qs) p h = (h.0, short-front qs p h.1)
 
-pub lies-left : {X : Type 0} (s : State X) (p : CodeLabel) (r : List CodeLabel) → Lies s → s.labels ≡ r ++ p ∷ [] → s.frame.labels ≤ length r → Lies (left p r s)
-lies-left s p r l e k =
-    let labels : waiting s.frame s.labels ≡ p ∷ waiting s.frame r = rw (e, drop-append-le s.frame.labels r (p ∷ []) k, reverse-append (drop s.frame.labels r) (p ∷ [])) in
-    let falls : Fall s.frame.floor (p ∷ waiting s.frame r) s.frame.here.height = subst (λ ks. Fall s.frame.floor ks s.frame.here.height) labels l.frame.falls in
+pub well_formed-left : {X : Type 0} (s : State X) (p : CodeLabel) (r : List CodeLabel) → IsWellFormed s → s.labels ≡ r ++ p ∷ [] → s.frame.labels ≤ length r → IsWellFormed (left p r s)
+well_formed-left s p r l e k =
+    let labels : enclosing_labels s.frame s.labels ≡ p ∷ enclosing_labels s.frame r = rw (e, drop-append-le s.frame.labels r (p ∷ []) k, reverse-append (drop s.frame.labels r) (p ∷ [])) in
+    let falls : Fall s.frame.floor (p ∷ enclosing_labels s.frame r) s.frame.here.height = subst (λ ks. Fall s.frame.floor ks s.frame.here.height) labels l.frame.falls in
     let cut : take s.frame.labels s.labels ≡ take s.frame.labels r = rw (e, take-append-le s.frame.labels r (p ∷ []) k) in
     let h : p.height ≤ length s.operands = omega (arith, falls.0, l.frame.height) in
     record {
       frame = record { height = h; falls = falls.1; labels_within = k; base_within = l.frame.base_within };
-      callers = subst (λ ms. FramesLie (reverse s.callers) ms (take s.frame.floor s.operands) (take s.frame.base s.locals)) cut l.callers;
+      callers = subst (λ ms. AreFramesWellFormed (reverse s.callers) ms (take s.frame.floor s.operands) (take s.frame.base s.locals)) cut l.callers;
       short = short-front r p (subst (λ ls. Short ls) e l.short);
     }
 
@@ -281,17 +281,17 @@ code_again code true p ps = ap (λ o. take 1 (drop p.place (code p.seq)) ++ o) (
 code_again code false p ps = refl
 
 -- a branch to a label that isn't the frame's last
-pub config_of-jumped : {W : Type 0} (m : Module) (b : List W) (s : State (Value W)) (k : ℕ) (t p : CodeLabel) (ps r : List CodeLabel) → Lies s → k ≤ length (waiting s.frame s.labels) →
-    target s.frame.here (waiting s.frame s.labels) k ≡ (t, p ∷ ps) → waiting s.frame r ≡ ps → take s.frame.labels r ≡ take s.frame.labels s.labels →
+pub config_of-jumped : {W : Type 0} (m : Module) (b : List W) (s : State (Value W)) (k : ℕ) (t p : CodeLabel) (ps r : List CodeLabel) → IsWellFormed s → k ≤ length (enclosing_labels s.frame s.labels) →
+    target s.frame.here (enclosing_labels s.frame s.labels) k ≡ (t, p ∷ ps) → enclosing_labels s.frame r ≡ ps → take s.frame.labels r ≡ take s.frame.labels s.labels →
     t.arity ≤ length (own s) →
     branch (config_of m b s) (own s) (drop k ((config_of m b s).frame.here ∷ (config_of m b s).frame.outer)) ≡ Goes (config_of m b (jumped t p r (again_place t.again p.place) s))
 config_of-jumped m b s k t p ps r l n e g q long =
     let room : s.frame.here.height + t.arity ≤ length s.operands = room-own s t.arity l long in
-    let low : t.height ≤ s.frame.here.height = subst (λ x. x.0.height ≤ s.frame.here.height) e (target-low s.frame.floor k s.frame.here (waiting s.frame s.labels) l.frame.falls) in
-    let falls : Fall s.frame.floor (p ∷ ps) t.height = subst (λ x. Fall s.frame.floor x.1 x.0.height) e (target-falls s.frame.floor k s.frame.here (waiting s.frame s.labels) l.frame.falls n) in
+    let low : t.height ≤ s.frame.here.height = subst (λ x. x.0.height ≤ s.frame.here.height) e (target-low s.frame.floor k s.frame.here (enclosing_labels s.frame s.labels) l.frame.falls) in
+    let falls : Fall s.frame.floor (p ∷ ps) t.height = subst (λ x. Fall s.frame.floor x.1 x.0.height) e (target-falls s.frame.floor k s.frame.here (enclosing_labels s.frame s.labels) l.frame.falls n) in
     let high : t.height ≤ length s.operands = omega (arith, l.frame.height) in
     let floor : s.frame.floor ≤ t.height = fall-floor s.frame.floor (p ∷ ps) t.height falls in
-    branch-target (code_of m s.entry s.frame.func) (config_of m b s) (own s) s.frame.floor k s.frame.here s.frame.here.place (waiting s.frame s.labels) s.operands l.frame.falls n ∙
+    branch-target (code_of m s.entry s.frame.func) (config_of m b s) (own s) s.frame.floor k s.frame.here s.frame.here.place (enclosing_labels s.frame s.labels) s.operands l.frame.falls n ∙
     rw (
       e,
       g,
@@ -306,13 +306,13 @@ config_of-jumped m b s k t p ps r l n e g q long =
       take-take s.frame.floor t.height s.operands floor,
     )
 
-pub lies-jumped : {X : Type 0} (s : State X) (k : ℕ) (t p : CodeLabel) (ps r : List CodeLabel) (place : ℕ) → Lies s → k ≤ length (waiting s.frame s.labels) →
-    target s.frame.here (waiting s.frame s.labels) k ≡ (t, p ∷ ps) → waiting s.frame r ≡ ps → take s.frame.labels r ≡ take s.frame.labels s.labels → s.frame.labels ≤ length r → Short r →
-    t.arity ≤ length (own s) → Lies (jumped t p r place s)
-lies-jumped s k t p ps r place l n e g q w short long =
+pub well_formed-jumped : {X : Type 0} (s : State X) (k : ℕ) (t p : CodeLabel) (ps r : List CodeLabel) (place : ℕ) → IsWellFormed s → k ≤ length (enclosing_labels s.frame s.labels) →
+    target s.frame.here (enclosing_labels s.frame s.labels) k ≡ (t, p ∷ ps) → enclosing_labels s.frame r ≡ ps → take s.frame.labels r ≡ take s.frame.labels s.labels → s.frame.labels ≤ length r → Short r →
+    t.arity ≤ length (own s) → IsWellFormed (jumped t p r place s)
+well_formed-jumped s k t p ps r place l n e g q w short long =
     let room : s.frame.here.height + t.arity ≤ length s.operands = room-own s t.arity l long in
-    let low : t.height ≤ s.frame.here.height = subst (λ x. x.0.height ≤ s.frame.here.height) e (target-low s.frame.floor k s.frame.here (waiting s.frame s.labels) l.frame.falls) in
-    let falls : Fall s.frame.floor (p ∷ ps) t.height = subst (λ x. Fall s.frame.floor x.1 x.0.height) e (target-falls s.frame.floor k s.frame.here (waiting s.frame s.labels) l.frame.falls n) in
+    let low : t.height ≤ s.frame.here.height = subst (λ x. x.0.height ≤ s.frame.here.height) e (target-low s.frame.floor k s.frame.here (enclosing_labels s.frame s.labels) l.frame.falls) in
+    let falls : Fall s.frame.floor (p ∷ ps) t.height = subst (λ x. Fall s.frame.floor x.1 x.0.height) e (target-falls s.frame.floor k s.frame.here (enclosing_labels s.frame s.labels) l.frame.falls n) in
     let high : t.height ≤ length s.operands = omega (arith, l.frame.height) in
     let floor : s.frame.floor ≤ t.height = fall-floor s.frame.floor (p ∷ ps) t.height falls in
     let room' : t.height + t.arity ≤ length s.operands = omega arith in
@@ -323,21 +323,21 @@ lies-jumped s k t p ps r place l n e g q w short long =
     }
 
 -- a branch to the frame's last label
-pub branch-out : {W : Type 0} (m : Module) (b : List W) (s : State (Value W)) (k : ℕ) (t : CodeLabel) → Lies s → k ≤ length (waiting s.frame s.labels) → target s.frame.here (waiting s.frame s.labels) k ≡ (t, []) →
+pub branch-out : {W : Type 0} (m : Module) (b : List W) (s : State (Value W)) (k : ℕ) (t : CodeLabel) → IsWellFormed s → k ≤ length (enclosing_labels s.frame s.labels) → target s.frame.here (enclosing_labels s.frame s.labels) k ≡ (t, []) →
     t.arity ≤ length (own s) →
     branch (config_of m b s) (own s) (drop k ((config_of m b s).frame.here ∷ (config_of m b s).frame.outer)) ≡ give_back (config_of m b s) (take t.arity (own s)) (config_of m b s).callers
 branch-out m b s k t l n e long =
-    branch-target (code_of m s.entry s.frame.func) (config_of m b s) (own s) s.frame.floor k s.frame.here s.frame.here.place (waiting s.frame s.labels) s.operands l.frame.falls n ∙ rw (e, le-ltb (length (own s)) t.arity long)
+    branch-target (code_of m s.entry s.frame.func) (config_of m b s) (own s) s.frame.floor k s.frame.here s.frame.here.place (enclosing_labels s.frame s.labels) s.operands l.frame.falls n ∙ rw (e, le-ltb (length (own s)) t.arity long)
 
 -- ---- frames
 
-pub config_of-returned : {W : Type 0} (m : Module) (b : List W) (s : State (Value W)) (p : CodeFrame) (r : List CodeFrame) (n : ℕ) → Lies s → s.callers ≡ r ++ p ∷ [] → n ≤ length (own s) →
+pub config_of-returned : {W : Type 0} (m : Module) (b : List W) (s : State (Value W)) (p : CodeFrame) (r : List CodeFrame) (n : ℕ) → IsWellFormed s → s.callers ≡ r ++ p ∷ [] → n ≤ length (own s) →
     give_back (config_of m b s) (take n (own s)) (config_of m b s).callers ≡ Goes (config_of m b (returned p r n s))
 config_of-returned m b s p r n l e long =
     let room : s.frame.here.height + n ≤ length s.operands = room-own s n l long in
     let back : reverse s.callers ≡ p ∷ reverse r = rw (e, reverse-append r (p ∷ [])) in
-    let lie : FramesLie (p ∷ reverse r) (take s.frame.labels s.labels) (take s.frame.floor s.operands) (take s.frame.base s.locals) = subst (λ cs. FramesLie cs (take s.frame.labels s.labels) (take s.frame.floor s.operands) (take s.frame.base s.locals)) back l.callers in
-    let low : s.frame.floor ≤ length s.operands = omega (arith, fall-floor s.frame.floor (waiting s.frame s.labels) s.frame.here.height l.frame.falls, l.frame.height) in
+    let lie : AreFramesWellFormed (p ∷ reverse r) (take s.frame.labels s.labels) (take s.frame.floor s.operands) (take s.frame.base s.locals) = subst (λ cs. AreFramesWellFormed cs (take s.frame.labels s.labels) (take s.frame.floor s.operands) (take s.frame.base s.locals)) back l.callers in
+    let low : s.frame.floor ≤ length s.operands = omega (arith, fall-floor s.frame.floor (enclosing_labels s.frame s.labels) s.frame.here.height l.frame.falls, l.frame.height) in
     let here : p.here.height ≤ s.frame.floor = omega (arith, lie.0.height, length-take-le s.frame.floor s.operands low) in
     let floor : p.floor ≤ s.frame.floor = omega (arith, fall-floor p.floor _ p.here.height lie.0.falls) in
     rw (
@@ -349,13 +349,13 @@ config_of-returned m b s p r n l e long =
       last_own n s room,
     )
 
-pub lies-returned : {X : Type 0} (s : State X) (p : CodeFrame) (r : List CodeFrame) (n : ℕ) → Lies s → s.callers ≡ r ++ p ∷ [] → n ≤ length (own s) → Lies (returned p r n s)
-lies-returned s p r n l e long =
+pub well_formed-returned : {X : Type 0} (s : State X) (p : CodeFrame) (r : List CodeFrame) (n : ℕ) → IsWellFormed s → s.callers ≡ r ++ p ∷ [] → n ≤ length (own s) → IsWellFormed (returned p r n s)
+well_formed-returned s p r n l e long =
     let room : s.frame.here.height + n ≤ length s.operands = room-own s n l long in
     let back : reverse s.callers ≡ p ∷ reverse r = rw (e, reverse-append r (p ∷ [])) in
-    let lie : FramesLie (p ∷ reverse r) (take s.frame.labels s.labels) (take s.frame.floor s.operands) (take s.frame.base s.locals) = subst (λ cs. FramesLie cs (take s.frame.labels s.labels) (take s.frame.floor s.operands) (take s.frame.base s.locals)) back l.callers in
-    let low : s.frame.floor ≤ length s.operands = omega (arith, fall-floor s.frame.floor (waiting s.frame s.labels) s.frame.here.height l.frame.falls, l.frame.height) in
-    let room' : s.frame.floor + n ≤ length s.operands = omega (arith, fall-floor s.frame.floor (waiting s.frame s.labels) s.frame.here.height l.frame.falls) in
+    let lie : AreFramesWellFormed (p ∷ reverse r) (take s.frame.labels s.labels) (take s.frame.floor s.operands) (take s.frame.base s.locals) = subst (λ cs. AreFramesWellFormed cs (take s.frame.labels s.labels) (take s.frame.floor s.operands) (take s.frame.base s.locals)) back l.callers in
+    let low : s.frame.floor ≤ length s.operands = omega (arith, fall-floor s.frame.floor (enclosing_labels s.frame s.labels) s.frame.here.height l.frame.falls, l.frame.height) in
+    let room' : s.frame.floor + n ≤ length s.operands = omega (arith, fall-floor s.frame.floor (enclosing_labels s.frame s.labels) s.frame.here.height l.frame.falls) in
     let floor : p.floor ≤ s.frame.floor = omega (arith, fall-floor p.floor _ p.here.height lie.0.falls, lie.0.height, length-take-le s.frame.floor s.operands low) in
     record {
       frame = record { height = omega (arith, length-kept s.frame.floor n s.operands room', lie.0.height, length-take-le s.frame.floor s.operands low); falls = lie.0.falls; labels_within = lie.0.labels_within; base_within = lie.0.base_within };
@@ -363,7 +363,7 @@ lies-returned s p r n l e long =
       short = short-take s.frame.labels s.labels l.short;
     }
 
-pub config_of-called : {W : Type 0} (m : Module) (b : List W) (s : State (Value W)) (g : ℕ) (f : Func) (n arity : ℕ) (others : List (Value W)) → Lies s → slice_get m.funcs g ≡ Some f → n ≤ length (own s) →
+pub config_of-called : {W : Type 0} (m : Module) (b : List W) (s : State (Value W)) (g : ℕ) (f : Func) (n arity : ℕ) (others : List (Value W)) → IsWellFormed s → slice_get m.funcs g ≡ Some f → n ≤ length (own s) →
     (let c : Config W = config_of m b s in
     let here : Label W = record { arity = arity; again = []; vals = []; code = seq_of f.body.seqs 0 } in
     let frame : Frame W = record { arity = arity; locals = reverse (take n (own s)) ++ others; seqs = f.body.seqs; here = here; outer = [] } in
@@ -375,7 +375,7 @@ config_of-called m b s g f n arity others l e long =
     let cut : length s.operands - n ≤ length s.operands = omega arith in
     let none : drop (length s.operands - n) (take (length s.operands - n) s.operands) ≡ [] = drop_all (length s.operands - n) (take (length s.operands - n) s.operands) (omega (arith, length-take-le (length s.operands - n) s.operands cut)) in
     let low : s.frame.here.height ≤ length s.operands - n = omega arith in
-    let floor : s.frame.floor ≤ length s.operands - n = omega (arith, fall-floor s.frame.floor (waiting s.frame s.labels) s.frame.here.height l.frame.falls) in
+    let floor : s.frame.floor ≤ length s.operands - n = omega (arith, fall-floor s.frame.floor (enclosing_labels s.frame s.labels) s.frame.here.height l.frame.falls) in
     rw (
       args,
       e,
@@ -391,12 +391,12 @@ config_of-called m b s g f n arity others l e long =
       take-take s.frame.floor (length s.operands - n) s.operands floor,
     )
 
-pub lies-called : {X : Type 0} (s : State X) (g n arity : ℕ) (others : List X) → Lies s → n ≤ length (own s) → Lies (called g n others arity s)
-lies-called s g n arity others l h =
+pub well_formed-called : {X : Type 0} (s : State X) (g n arity : ℕ) (others : List X) → IsWellFormed s → n ≤ length (own s) → IsWellFormed (called g n others arity s)
+well_formed-called s g n arity others l h =
     let room : s.frame.here.height + n ≤ length s.operands = room-own s n l h in
     let cut : length s.operands - n ≤ length s.operands = omega arith in
     let long : length (take (length s.operands - n) s.operands) ≡ length s.operands - n = length-take-le (length s.operands - n) s.operands cut in
-    let floor : s.frame.floor ≤ length s.operands - n = omega (arith, fall-floor s.frame.floor (waiting s.frame s.labels) s.frame.here.height l.frame.falls) in
+    let floor : s.frame.floor ≤ length s.operands - n = omega (arith, fall-floor s.frame.floor (enclosing_labels s.frame s.labels) s.frame.here.height l.frame.falls) in
     record {
       frame = record { height = omega (arith, long); falls = rw (drop-length s.labels) (omega arith); labels_within = omega arith; base_within = omega (arith, length-append s.locals (drop (length s.operands - n) s.operands ++ others)) };
       callers = rw (reverse-append s.callers (s.frame ∷ []), take-length s.labels, take-take (length s.operands - n) (length s.operands - n) s.operands (omega arith), take-append_seam s.locals (drop (length s.operands - n) s.operands ++ others)) (

@@ -21,15 +21,15 @@ use Rattle.wasm_machine.specs.declared.progress.Progress.{Progress}
 use Rattle.wasm_machine.specs.declared.ranges.FillRange.{FillRange}
 use Rattle.wasm_machine.specs.declared.ranges.CopyRange.{CopyRange}
 use Rattle.wasm_machine.specs.declared.ranges.Growth.{Growth}
-use Rattle.wasm_machine.specs.States.{State}
-use Rattle.wasm_machine.specs.Moves.{own, passed, without, replaced}
-use Rattle.wasm_machine.specs.Stores.{list_at, with_table, without_elem}
+use Rattle.wasm_machine.specs.States.{State, own, passed}
+use Rattle.wasm_machine.specs.code.Moves.{without, replaced, with_table, without_elem}
+use Rattle.wasm_machine.specs.Stores.{list_at}
 use Rattle.wasm_machine.specs.Values.{value, reference, ValueHeld}
-use Rattle.wasm_machine.specs.Configurations.{Lies, image, config_of, configuration}
+use Rattle.wasm_machine.specs.Configurations.{IsWellFormed, image, config_of, configuration}
 use Rattle.wasm_machine.specs.Acts.{Sane, Acts}
-use Rattle.wasm_machine.specs.Reached.{grows}
-use Rattle.wasm_machine.specs.Comings.{came_to}
-use Rattle.wasm_machine.proofs.Steps.{lies-passed}
+use Rattle.wasm_machine.specs.code.RangeProgress.{grows}
+use Rattle.wasm_machine.specs.code.InstructionProgress.{came_to}
+use Rattle.wasm_machine.proofs.Steps.{well_formed-passed}
 use Rattle.wasm_machine.proofs.Images.{image-kept, sane-kept, sane-passed, sane-pushed, sane-without}
 use Rattle.wasm_machine.proofs.ActLaws.{acting, drop-config, put-config}
 use Rattle.wasm_machine.proofs.ProgressLaws.{Found}
@@ -96,14 +96,14 @@ pub elem-config : {V M : Type 0} (h : V → M) (m : Module) (b : List M) (p : St
     configuration h m b (without_elem e p) ≡ with_elems (configuration h m b p) (slice_set (map (λ t. map reference t) p.elems) e [])
 elem-config h m b p e = ap (λ es. with_elems (configuration h m b p) es) (map-set (λ t. map reference t) p.elems e [])
 
-lies-table : {X : Type 0} (p : State X) (x : ℕ) (elements : List CodeReference) → Lies p → Lies (with_table x elements p)
-lies-table p x elements l = record { frame = l.frame; callers = l.callers; short = l.short }
+well_formed-table : {X : Type 0} (p : State X) (x : ℕ) (elements : List CodeReference) → IsWellFormed p → IsWellFormed (with_table x elements p)
+well_formed-table p x elements l = record { frame = l.frame; callers = l.callers; short = l.short }
 
 pub sane-table : {A V : Type 0} (H : A → V → Type 0) (a : A) (p : State (CodeValue V)) (x : ℕ) (elements : List CodeReference) → Sane H a p → Sane H a (with_table x elements p)
-sane-table H a p x elements h = record { lies = lies-table p x elements h.lies; operands = h.operands; locals = h.locals; globals = h.globals }
+sane-table H a p x elements h = record { well_formed = well_formed-table p x elements h.well_formed; operands = h.operands; locals = h.locals; globals = h.globals }
 
 pub sane-elem : {A V : Type 0} (H : A → V → Type 0) (a : A) (p : State (CodeValue V)) (e : ℕ) → Sane H a p → Sane H a (without_elem e p)
-sane-elem H a p e h = record { lies = record { frame = h.lies.frame; callers = h.lies.callers; short = h.lies.short }; operands = h.operands; locals = h.locals; globals = h.globals }
+sane-elem H a p e h = record { well_formed = record { frame = h.well_formed.frame; callers = h.well_formed.callers; short = h.well_formed.short }; operands = h.operands; locals = h.locals; globals = h.globals }
 
 module _ {A V M : Type 0} (H : A → V → Type 0) (means : A → V → M) (K : Kind M) (m : Module) (a : A) (s : State (CodeValue V)) (sane : Sane H a s) where
   -- an instruction goes on with other elements in a table, without its n operands
@@ -117,7 +117,7 @@ module _ {A V M : Type 0} (H : A → V → Type 0) (means : A → V → M) (K : 
         gives = λ b. f b ∙ ap (λ c. Goes c) (sym (ap (λ t. configuration (means a') m b t) e
             ∙ table-config (means a') m b (without n (passed s)) x elements
             ∙ ap₂ (λ c now. table_with c x now)
-            (ap (λ p. config_of m b p) (image-kept H means a a' kept (without n (passed s)) left) ∙ drop-config (means a) m b (passed s) n (lies-passed s sane.lies) long)
+            (ap (λ p. config_of m b p) (image-kept H means a a' kept (without n (passed s)) left) ∙ drop-config (means a) m b (passed s) n (well_formed-passed s sane.well_formed) long)
             is));
         after = subst (λ t. Sane H a' t) (sym e) (sane-table H a' (without n (passed s)) x elements (sane-kept H means a a' kept (without n (passed s)) left));
       }

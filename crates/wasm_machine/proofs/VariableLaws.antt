@@ -11,13 +11,13 @@ use Rattle.wasm_reduction.specs.Combinators.{holding, with_locals, with_globals,
 use Rattle.wasm_machine.specs.declared.values.Value.{Value as CodeValue}
 use Rattle.wasm_machine.specs.declared.next.Next.TheVariants.{Goes as CodeGoes, Ends as CodeEnds}
 use Rattle.wasm_machine.specs.declared.next.End.TheVariants.{Stuck as CodeStuck}
-use Rattle.wasm_machine.specs.States.{State}
-use Rattle.wasm_machine.specs.Moves.{own, passed, pushed, without, with_local, with_global}
+use Rattle.wasm_machine.specs.States.{State, own, passed}
+use Rattle.wasm_machine.specs.code.Moves.{pushed, without, with_local, with_global}
 use Rattle.wasm_machine.specs.Values.{value, ValueHeld}
 use Rattle.wasm_machine.specs.Configurations.{image, config_of, configuration}
 use Rattle.wasm_machine.specs.Acts.{Sane, Acts}
 use Rattle.wasm_machine.proofs.Lists.{all-get, all-drop}
-use Rattle.wasm_machine.proofs.Steps.{config_of-local, lies-passed}
+use Rattle.wasm_machine.proofs.Steps.{config_of-local, well_formed-passed}
 use Rattle.wasm_machine.proofs.Images.{own-image, own-held, kept-same, image-local, image-global, sane-passed, sane-without, sane-local, sane-global}
 use Rattle.wasm_machine.proofs.Operands.{found-value, no-value}
 use Rattle.wasm_machine.proofs.ActLaws.{push-acts, stuck-acts, drop-config}
@@ -96,7 +96,7 @@ set-goes H means K m a s p q t x old v sane e f d r w =
     let is : t ≡ with_local x v (without 1 (passed s)) = w ∙ ap (λ q. with_local x v q) (r ∙ ap (λ p. without 1 p) d) in
     record {
       gives = λ b. found _ _ _ (local-there (means a) s x (Some old) e) ∙ found-value (means a) s 0 v _ f ∙
-          ap (λ c. Goes (with_locals c (slice_set c.frame.locals x (value (means a) v)))) (sym (drop-config (means a) m b (passed s) 1 (lies-passed s sane.lies) some)) ∙
+          ap (λ c. Goes (with_locals c (slice_set c.frame.locals x (value (means a) v)))) (sym (drop-config (means a) m b (passed s) 1 (well_formed-passed s sane.well_formed) some)) ∙
           ap (λ c. Goes c) (sym (local-config (means a) m b (without 1 (passed s)) x v)) ∙ ap (λ t. Goes (configuration (means a) m b t)) (sym is);
       after = subst (λ t. Sane H a t) (sym is) (sane-local H a (without 1 (passed s)) x v (sane-without H a (passed s) 1 (sane-passed H a s sane) some) (all-get (ValueHeld (H a)) (own s) 0 v (own-held H a s sane) (sym f)));
     }
@@ -119,7 +119,7 @@ global-set-goes H means K m a s p q t x old v sane e f d r w =
     let is : t ≡ with_global x v (without 1 (passed s)) = w ∙ ap (λ q. with_global x v q) (r ∙ ap (λ p. without 1 p) d) in
     record {
       gives = λ b. found _ _ _ (global-there (means a) s x (Some old) e) ∙ found-value (means a) s 0 v _ f ∙
-          ap (λ c. Goes (with_globals c (slice_set c.store.globals x (value (means a) v)))) (sym (drop-config (means a) m b (passed s) 1 (lies-passed s sane.lies) some)) ∙
+          ap (λ c. Goes (with_globals c (slice_set c.store.globals x (value (means a) v)))) (sym (drop-config (means a) m b (passed s) 1 (well_formed-passed s sane.well_formed) some)) ∙
           ap (λ s. Goes (config_of m b s)) (sym (image-global (means a) x v (without 1 (passed s)))) ∙ ap (λ t. Goes (configuration (means a) m b t)) (sym is);
       after = subst (λ t. Sane H a t) (sym is) (sane-global H a (without 1 (passed s)) x v (sane-without H a (passed s) 1 (sane-passed H a s sane) some) (all-get (ValueHeld (H a)) (own s) 0 v (own-held H a s sane) (sym f)));
     }

@@ -10,14 +10,13 @@ use Rattle.wasm_reduction.specs.Steps.{act}
 use Rattle.wasm_machine.specs.declared.values.Value.{Value as CodeValue}
 use Rattle.wasm_machine.specs.declared.next.Next.{Next as CodeNext}
 use Rattle.wasm_machine.specs.declared.next.Next.TheVariants.{Goes as CodeGoes, Draws as CodeDraws, Asks as CodeAsks, Ends as CodeEnds}
-use Rattle.wasm_machine.specs.States.{State}
-use Rattle.wasm_machine.specs.Moves.{passed, own}
+use Rattle.wasm_machine.specs.States.{State, passed, own}
 use Rattle.wasm_machine.specs.Values.{question, end_of, value, ValuesHeld, EndHeld}
-use Rattle.wasm_machine.specs.Configurations.{code_of, image, configuration, Lies}
+use Rattle.wasm_machine.specs.Configurations.{code_of, image, configuration, IsWellFormed}
 
 -- the state is in order, and each of its words is held
 pub record Sane {A V : Type 0} (H : A → V → Type 0) (a : A) (s : State (CodeValue V)) : Type 0 where
-  pub lies : Lies s
+  pub well_formed : IsWellFormed s
   pub operands : ValuesHeld (H a) s.operands
   pub locals : ValuesHeld (H a) s.locals
   pub globals : ValuesHeld (H a) s.globals

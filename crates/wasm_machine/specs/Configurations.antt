@@ -54,16 +54,16 @@ labels_of code (k ∷ ks) ops = label_of code k (k.place + 1) ks ops ∷ labels_
 -- ---- frames
 
 -- the waiting labels of a frame, the innermost first
-abbrev pub waiting : CodeFrame → List CodeLabel → List CodeLabel
-waiting p labels = reverse (drop p.labels labels)
+abbrev pub enclosing_labels : CodeFrame → List CodeLabel → List CodeLabel
+enclosing_labels p labels = reverse (drop p.labels labels)
 
 abbrev pub frame_of : {W : Type 0} → Module → ℕ → CodeFrame → List CodeLabel → List (Value W) → List (Value W) → Frame W
 frame_of m entry p labels ops locals = record {
   arity = p.arity;
   locals = drop p.base locals;
   seqs = seqs_of m p.func;
-  here = label_of (code_of m entry p.func) p.here p.here.place (waiting p labels) ops;
-  outer = labels_of (code_of m entry p.func) (waiting p labels) (take p.here.height ops);
+  here = label_of (code_of m entry p.func) p.here p.here.place (enclosing_labels p labels) ops;
+  outer = labels_of (code_of m entry p.func) (enclosing_labels p labels) (take p.here.height ops);
 }
 
 -- frames, the innermost first
@@ -130,22 +130,22 @@ Fall floor [] n = floor ≤ n
 Fall floor (k ∷ ks) n = (k.height ≤ n) × Fall floor ks k.height
 
 -- a frame lies within these lists
-pub record FrameLies {X : Type 0} (p : CodeFrame) (labels : List CodeLabel) (ops locals : List X) : Type 0 where
+pub record IsFrameWellFormed {X : Type 0} (p : CodeFrame) (labels : List CodeLabel) (ops locals : List X) : Type 0 where
   pub height : p.here.height ≤ length ops
-  pub falls : Fall p.floor (waiting p labels) p.here.height
+  pub falls : Fall p.floor (enclosing_labels p labels) p.here.height
   pub labels_within : p.labels ≤ length labels
   pub base_within : p.base ≤ length locals
 
-abbrev pub FramesLie : {X : Type 0} → List CodeFrame → List CodeLabel → List X → List X → Type 0
-FramesLie [] labels ops locals = Unit {0}
-FramesLie (p ∷ ps) labels ops locals = FrameLies p labels ops locals × FramesLie ps (take p.labels labels) (take p.floor ops) (take p.base locals)
+abbrev pub AreFramesWellFormed : {X : Type 0} → List CodeFrame → List CodeLabel → List X → List X → Type 0
+AreFramesWellFormed [] labels ops locals = Unit {0}
+AreFramesWellFormed (p ∷ ps) labels ops locals = IsFrameWellFormed p labels ops locals × AreFramesWellFormed ps (take p.labels labels) (take p.floor ops) (take p.base locals)
 
 -- each place can be counted on
 abbrev pub Short : List CodeLabel → Type 0
 Short [] = Unit {0}
 Short (p ∷ ps) = (p.place + 1 < 2 ^ 64) × Short ps
 
-pub record Lies {X : Type 0} (s : State X) : Type 0 where
-  pub frame : FrameLies s.frame s.labels s.operands s.locals
-  pub callers : FramesLie (reverse s.callers) (take s.frame.labels s.labels) (take s.frame.floor s.operands) (take s.frame.base s.locals)
+pub record IsWellFormed {X : Type 0} (s : State X) : Type 0 where
+  pub frame : IsFrameWellFormed s.frame s.labels s.operands s.locals
+  pub callers : AreFramesWellFormed (reverse s.callers) (take s.frame.labels s.labels) (take s.frame.floor s.operands) (take s.frame.base s.locals)
   pub short : Short s.labels

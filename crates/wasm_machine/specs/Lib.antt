@@ -1,13 +1,7 @@
 pub mod States
-pub mod Moves
 pub mod Values
 pub mod Configurations
 pub mod Acts
-pub mod Divisions
-pub mod Selects
-pub mod Reached
-pub mod Says
-pub mod Choices
 pub mod Stores
-pub mod Comings
 pub mod Steps
+pub mod code

@@ -1,4 +1,4 @@
--- The tables and the segments of a state, and what the machine's moves do to them.
+-- The tables of a state, and the cells of the memory beside it.
 use Rattle.std.specs.Prelude.{ℕ, ◌<◌, ◌^◌, true, List, [], length, All, slice_get, slice_set, unwrap_or}
 use Rattle.std.specs.List.{AllByRecursion}
 use Rattle.wasm_machine.specs.declared.values.Reference.{Reference}
@@ -7,18 +7,6 @@ use Rattle.wasm_machine.specs.States.{State}
 -- one list of several: the elements of a table, or the references of an element segment
 abbrev pub list_at : List (List Reference) → ℕ → List Reference
 list_at lists x = unwrap_or (slice_get lists x) []
-
--- with other elements in a table
-abbrev pub with_table : {X : Type 0} → ℕ → List Reference → State X → State X
-with_table x elements s = record s { tables = slice_set s.tables x elements }
-
--- without an element segment
-abbrev pub without_elem : {X : Type 0} → ℕ → State X → State X
-without_elem e s = record s { elems = slice_set s.elems e [] }
-
--- without a data segment
-abbrev pub without_data : {X : Type 0} → ℕ → State X → State X
-without_data x s = record s { dropped = slice_set s.dropped x true }
 
 -- the sizes of tables can be written as words of 32 bits
 abbrev pub TablesSmall : {X : Type 0} → State X → Type 0

@@ -4,11 +4,11 @@ ghost use Rattle.wasm_ast.specs.declared.modules.Module.{Module as OneModule};
 ghost use Rattle.wasm_ast.specs.declared.instructions.Instr.{Instr};
 ghost use Rattle.wasm_rules.specs.Words.{Kept};
 ghost use Rattle.wasm_reduction.specs.Control.{br as br_of};
-ghost use Rattle.wasm_machine.specs.Moves.{own};
+ghost use Rattle.wasm_machine.specs.States.{own};
 ghost use Rattle.wasm_machine.specs.Configurations.{image as image_of, configuration};
 ghost use Rattle.wasm_machine.specs.Acts.{Sane, Ready, Acts};
-ghost use Rattle.wasm_machine.specs.Says.{Says};
-ghost use Rattle.wasm_machine.specs.Choices.{choice_of};
+ghost use Rattle.wasm_machine.specs.code.Simulation.{SimulatesWithoutAsking};
+ghost use Rattle.wasm_machine.specs.code.Choices.{choice_of};
 
 use crate::control::give_back;
 use crate::machine::Machine;
@@ -26,7 +26,7 @@ fn jump<A: Algebra>(
     l: u32,
 ) -> Result<Next<A::Word>, AllocError>
     requires { Sane A.holds a.now s.old }
-    ensures { IfOk result (λ x. (m : OneModule) → Says A.holds A.means m a.now s.new x
+    ensures { IfOk result (λ x. (m : OneModule) → SimulatesWithoutAsking A.holds A.means m a.now s.new x
         (λ b. br_of (configuration (A.means a.now) m b s.old) (own (image_of (A.means a.now) s.old)) l)) }
 {
     let k = l as usize;

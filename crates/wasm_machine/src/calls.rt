@@ -7,10 +7,10 @@ ghost use Rattle.wasm_image.specs.Hosts.{AreLinked};
 ghost use Rattle.wasm_reduction.specs.Configurations.{FuncRef};
 ghost use Rattle.wasm_reduction.specs.Functions.{Code, same_function_type, defined_as};
 ghost use Rattle.wasm_reduction.specs.Control.{call as call_of, calling_host, calling as calling_of, calling_reference};
-ghost use Rattle.wasm_machine.specs.Moves.{own, passed};
+ghost use Rattle.wasm_machine.specs.States.{own, passed};
 ghost use Rattle.wasm_machine.specs.Configurations.{image as image_of, configuration};
 ghost use Rattle.wasm_machine.specs.Acts.{Ready, Acts};
-ghost use Rattle.wasm_machine.specs.Says.{Tells};
+ghost use Rattle.wasm_machine.specs.code.Simulation.{Simulates};
 ghost use Rattle.wasm_machine.specs.Stores.{TablesSmall};
 ghost use Rattle.wasm_machine.specs.Values.{reference, word_at};
 ghost use Rattle.wasm_image.specs.declared.hosts.Host.{Host as OneHost};
@@ -50,7 +50,7 @@ fn call_host<A: Algebra>(
     requires ready { Ready A.holds A.Has A.means a.now s.old }
     requires above { k ≤ length (own s.old) }
     requires one { k ≤ 1 }
-    ensures { (m : OneModule) → Tells A.holds A.means m a.now s.old s.new result
+    ensures { (m : OneModule) → Simulates A.holds A.means m a.now s.old s.new result
         (λ b. calling_host (configuration (A.means a.now) m b (passed s.old)) (drop k (own (image_of (A.means a.now) s.old))) (drop j s.old.answers) (Some host)) }
 {
     match host {
@@ -74,7 +74,7 @@ fn assume<A: Algebra>(a: &A, s: &mut Machine<A::Word>, k: usize, j: usize) -> Ne
     requires ready { Ready A.holds A.Has A.means a.now s.old }
     requires above { k ≤ length (own s.old) }
     requires one { k ≤ 1 }
-    ensures { (m : OneModule) → Tells A.holds A.means m a.now s.old s.new result
+    ensures { (m : OneModule) → Simulates A.holds A.means m a.now s.old s.new result
         (λ b. calling_host (configuration (A.means a.now) m b (passed s.old)) (drop k (own (image_of (A.means a.now) s.old))) (drop j s.old.answers) (Some OneHost.Assume)) }
 {
     match s.word(k, false) {
@@ -98,7 +98,7 @@ fn assert<A: Algebra>(a: &A, s: &mut Machine<A::Word>, k: usize, j: usize) -> Ne
     requires ready { Ready A.holds A.Has A.means a.now s.old }
     requires above { k ≤ length (own s.old) }
     requires one { k ≤ 1 }
-    ensures { (m : OneModule) → Tells A.holds A.means m a.now s.old s.new result
+    ensures { (m : OneModule) → Simulates A.holds A.means m a.now s.old s.new result
         (λ b. calling_host (configuration (A.means a.now) m b (passed s.old)) (drop k (own (image_of (A.means a.now) s.old))) (drop j s.old.answers) (Some OneHost.Assert)) }
 {
     match s.word(k, false) {
@@ -131,7 +131,7 @@ fn call_code<A: Algebra>(
     requires one { k ≤ 1 }
     requires code { slice_get m.now.funcs g ≡ Some f.now }
     ensures kept { Kept A.holds A.means a.old a.new }
-    ensures tells { IfOk result (λ x. (ns : List ℕ) → Tells A.holds A.means m.now a.new s.old s.new x
+    ensures tells { IfOk result (λ x. (ns : List ℕ) → Simulates A.holds A.means m.now a.new s.old s.new x
         (λ b. calling_of A.kind m.now (configuration (A.means a.old) m.now b (passed s.old)) (drop k (own (image_of (A.means a.old) s.old))) ns (defined_as f.now) (Code f.now))) }
 {
     match type_at(m, f.ty) {
@@ -165,7 +165,7 @@ fn call_function<A: Algebra>(
     requires one { k ≤ 1 }
     requires linked { AreLinked image.now }
     ensures kept { Kept A.holds A.means a.old a.new }
-    ensures tells { IfOk result (λ r. Tells A.holds A.means image.now a.new s.old s.new r
+    ensures tells { IfOk result (λ r. Simulates A.holds A.means image.now a.new s.old s.new r
         (λ b. call_of A.kind image.now (configuration (A.means a.old) image.now b (passed s.old)) (drop k (own (image_of (A.means a.old) s.old))) (drop j s.old.answers) x)) }
 {
     match image.host(x) {
@@ -288,7 +288,7 @@ fn call_reference<A: Algebra>(
     requires above { 1 ≤ length (own s.old) }
     requires linked { AreLinked image.now }
     ensures kept { Kept A.holds A.means a.old a.new }
-    ensures tells { IfOk result (λ x. Tells A.holds A.means image.now a.new s.old s.new x
+    ensures tells { IfOk result (λ x. Simulates A.holds A.means image.now a.new s.old s.new x
         (λ b. calling_reference A.kind image.now (configuration (A.means a.old) image.now b (passed s.old)) (drop 1 (own (image_of (A.means a.old) s.old))) (drop 2 s.old.answers) t.now (reference r))) }
 {
     match r {
@@ -315,7 +315,7 @@ fn call_of_type<A: Algebra>(
     requires above { 1 ≤ length (own s.old) }
     requires linked { AreLinked image.now }
     ensures kept { Kept A.holds A.means a.old a.new }
-    ensures tells { IfOk result (λ r. Tells A.holds A.means image.now a.new s.old s.new r
+    ensures tells { IfOk result (λ r. Simulates A.holds A.means image.now a.new s.old s.new r
         (λ b. calling_reference A.kind image.now (configuration (A.means a.old) image.now b (passed s.old)) (drop 1 (own (image_of (A.means a.old) s.old))) (drop 2 s.old.answers) t.now (FuncRef (Some f)))) }
 {
     if f as usize >= image.function_count() {

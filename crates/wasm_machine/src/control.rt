@@ -4,11 +4,11 @@ ghost use Rattle.wasm_ast.specs.declared.modules.Module.{Module as OneModule};
 ghost use Rattle.wasm_ast.specs.declared.instructions.Instr.{Instr};
 ghost use Rattle.wasm_reduction.specs.Functions.{block_type as block_type_of};
 ghost use Rattle.wasm_reduction.specs.Control.{finish, give_back as give_back_of};
-ghost use Rattle.wasm_machine.specs.Moves.{own, passed};
+ghost use Rattle.wasm_machine.specs.States.{own, passed};
 ghost use Rattle.wasm_machine.specs.Configurations.{image as image_of, configuration};
 ghost use Rattle.wasm_machine.specs.Acts.{Sane, Ready, IsNext, Acts};
-ghost use Rattle.wasm_machine.specs.Says.{Says, arities_of, carried_by, opening, IsOpening};
-ghost use Rattle.wasm_machine.specs.Selects.{by_answer};
+ghost use Rattle.wasm_machine.specs.code.Simulation.{SimulatesWithoutAsking, arities_of, carried_by, opening, IsOpening};
+ghost use Rattle.wasm_machine.specs.code.SelectOperands.{by_answer};
 
 use crate::machine::Machine;
 use crate::next::{End, Next, Question};
@@ -70,7 +70,7 @@ fn open<A: Algebra>(
     requires place { s.old.frame.here.place + 1 < 2 ^ 64 }
     requires units { s.old.units + 1 < 2 ^ 64 }
     requires opening { IsOpening m.now s.old again ty body }
-    ensures { IfOk result (λ x. Says A.holds A.means m.now a.now s.new x
+    ensures { IfOk result (λ x. SimulatesWithoutAsking A.holds A.means m.now a.now s.new x
         (λ b. opening again m.now (configuration (A.means a.now) m.now b (passed s.old)) (own (image_of (A.means a.now) s.old)) ty body)) }
 {
     match block_arities(m, ty) {
@@ -170,7 +170,7 @@ pub(crate) fn give_back<A: Algebra>(
 ) -> Result<Next<A::Word>, AllocError>
     requires sane { Sane A.holds a.now s.old }
     requires within { n ≤ length (own s.old) }
-    ensures { IfOk result (λ x. (m : OneModule) → Says A.holds A.means m a.now s.new x
+    ensures { IfOk result (λ x. (m : OneModule) → SimulatesWithoutAsking A.holds A.means m a.now s.new x
         (λ b. give_back_of (configuration (A.means a.now) m b s.old) (take n (own (image_of (A.means a.now) s.old))) (configuration (A.means a.now) m b s.old).callers)) }
 {
     if s.give_back(n) {
@@ -188,7 +188,7 @@ pub fn end<A: Algebra>(
     s: &mut Machine<A::Word>,
 ) -> Result<Next<A::Word>, AllocError>
     requires { Sane A.holds a.now s.old }
-    ensures { IfOk result (λ x. (m : OneModule) → Says A.holds A.means m a.now s.new x
+    ensures { IfOk result (λ x. (m : OneModule) → SimulatesWithoutAsking A.holds A.means m a.now s.new x
         (λ b. finish (configuration (A.means a.now) m b s.old) (own (image_of (A.means a.now) s.old)) (configuration (A.means a.now) m b s.old).frame.outer)) }
 {
     if s.label_count() > 0 {

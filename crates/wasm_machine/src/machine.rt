@@ -1,7 +1,7 @@
 // The machine's state, and what moves it.
 ghost use Rattle.std.specs.Prelude.{◌≡◌, ◌∷◌, [], ◌++◌, ◌+◌, ◌-◌, ◌<◌, ◌≤◌, ◌^◌, length, OnOk, IfOk, IfSome, MatchOption, MatchBool, slice_get, take, drop, List, Some, None};
-ghost use Rattle.wasm_machine.specs.States.{State};
-ghost use Rattle.wasm_machine.specs.Moves.{pushed, without, replaced, own, cost, passed, noted, with_local, with_global, entered, kept, again_place, left, from_end, branched, returned, called};
+ghost use Rattle.wasm_machine.specs.States.{State, own, cost, passed};
+ghost use Rattle.wasm_machine.specs.code.Moves.{pushed, without, replaced, noted, with_local, with_global, entered, kept, again_place, left, from_end, branched, returned, called};
 ghost use Rattle.wasm_machine.specs.Configurations.{code_of, outer_call_of};
 ghost use Rattle.wasm_machine.specs.declared.machine.Frame.{Frame as OneFrame};
 ghost use Rattle.wasm_machine.specs.Values.{default_value, first_locals_of, word_at, reference_at};

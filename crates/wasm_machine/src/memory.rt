@@ -61,14 +61,12 @@ pub trait Memory<A: Algebra> {
     fn write(&mut self, at: u64, words: &[A::Word]) -> Result<(), AllocError>
         requires within { at + length words.now ≤ length (cells self.old) }
         requires fits { All fits words.now }
-        ensures written { OnOk result (cells self.new ≡ written at words.now (cells self.old)) }
-        ensures refused { OnErr result (cells self.new ≡ cells self.old) };
+        ensures written { OnOk result (cells self.new ≡ written at words.now (cells self.old)) };
 
     /// Plain bytes are written, from a place on.
     fn write_bytes(&mut self, at: u64, bytes: &[u8]) -> Result<(), AllocError>
         requires within { at + length bytes.now ≤ length (cells self.old) }
-        ensures written { OnOk result (cells self.new ≡ written at (map plain bytes.now) (cells self.old)) }
-        ensures refused { OnErr result (cells self.new ≡ cells self.old) };
+        ensures written { OnOk result (cells self.new ≡ written at (map plain bytes.now) (cells self.old)) };
 
     /// The words of the cells from a place on, as many as there is room for.
     fn read(&self, at: u64, out: &mut [A::Word])
@@ -113,7 +111,6 @@ pub trait Memory<A: Algebra> {
         requires cells_held { All (A.holds a.old) (cells self.old) }
         ensures held { OnOk result (All (A.holds a.new) (cells self.new)) }
         ensures means { OnOk result (map (A.means a.new) (cells self.new) ≡ written at (stored A.kind op (A.means a.old w)) (map (A.means a.old) (cells self.old))) }
-        ensures refused { OnErr result (cells self.new ≡ cells self.old) }
         ensures keeps { Kept A.holds A.means a.old a.new }
     {
         let Some(access) = Access::store(op) else {

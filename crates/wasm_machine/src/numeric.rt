@@ -7,10 +7,10 @@ ghost use Rattle.int_ops.specs.declared.operators.Operation.{Operation as OneOpe
 ghost use Rattle.int_ops.specs.Operators.{operator_of, bits_of, divides as divides_of, is_div_s as is_div_s_of};
 ghost use Rattle.wasm_rules.specs.Words.{Kept};
 ghost use Rattle.wasm_reduction.specs.Numeric.{is_wide as is_wide_of, eqz_op as eqz_op_of, eq_op as eq_op_of, is_overflow as is_overflow_of};
-ghost use Rattle.wasm_machine.specs.Moves.{own};
+ghost use Rattle.wasm_machine.specs.States.{own};
 ghost use Rattle.wasm_machine.specs.Values.{word_at};
 ghost use Rattle.wasm_machine.specs.Acts.{Ready, Acts};
-ghost use Rattle.wasm_machine.specs.Divisions.{check_of, check_overflow};
+ghost use Rattle.wasm_machine.specs.code.Divisions.{check_of, check_overflow};
 
 use crate::machine::Machine;
 use crate::next::{End, Next, Question};

@@ -5,7 +5,7 @@ ghost use Rattle.wasm_ast.specs.declared.instructions.Instr.{Instr};
 ghost use Rattle.wasm_rules.specs.Words.{Kept};
 ghost use Rattle.wasm_machine.specs.Acts.{Ready, Acts};
 ghost use Rattle.wasm_machine.specs.Values.{valued};
-ghost use Rattle.wasm_machine.specs.Selects.{Three, by_answer};
+ghost use Rattle.wasm_machine.specs.code.SelectOperands.{SelectOperands, by_answer};
 ghost use Rattle.wasm_machine.specs.declared.values.Value.{Value as OneValue};
 
 use crate::machine::Machine;
@@ -60,7 +60,7 @@ fn choose<A: Algebra>(
     second: Value<A::Word>,
 ) -> Result<Next<A::Word>, AllocError>
     requires ready { Ready A.holds A.Has A.means a.old s.old }
-    requires three { Three s.old condition first second }
+    requires three { SelectOperands s.old condition first second }
     ensures kept { Kept A.holds A.means a.old a.new }
     ensures acts { IfOk result (λ x. (m : OneModule) → Acts A.holds A.means A.kind m Instr.Select a.old s.old a.new s.new x) }
 {
@@ -87,7 +87,7 @@ fn choose_word<A: Algebra>(
     second: Value<A::Word>,
 ) -> Result<Next<A::Word>, AllocError>
     requires ready { Ready A.holds A.Has A.means a.old s.old }
-    requires three { Three s.old condition (valued wide first) second }
+    requires three { SelectOperands s.old condition (valued wide first) second }
     ensures kept { Kept A.holds A.means a.old a.new }
     ensures acts { IfOk result (λ x. (m : OneModule) → Acts A.holds A.means A.kind m Instr.Select a.old s.old a.new s.new x) }
 {
@@ -111,7 +111,7 @@ fn choose_reference<A: Algebra>(
     second: Value<A::Word>,
 ) -> Next<A::Word>
     requires ready { Ready A.holds A.Has A.means a.now s.old }
-    requires three { Three s.old condition (OneValue.Ref first) second }
+    requires three { SelectOperands s.old condition (OneValue.Ref first) second }
     ensures { (m : OneModule) → Acts A.holds A.means A.kind m Instr.Select a.now s.old a.now s.new result }
 {
     match second.reference() {

@@ -4,12 +4,12 @@ ghost use Rattle.wasm_rules.specs.Words.{Kept, bits_where};
 ghost use Rattle.wasm_reduction.specs.Configurations.{Reference as OneReference, Value as OneValue, Next as Step};
 ghost use Rattle.wasm_reduction.specs.Combinators.{with_found, with_word, with_reference};
 ghost use Rattle.wasm_reduction.specs.Ranges.{with_element, indexing as indexing_of, addressing as addressing_of, filling as filling_of, copying as copying_of, with_copy};
-ghost use Rattle.wasm_machine.specs.Moves.{own};
+ghost use Rattle.wasm_machine.specs.States.{own};
 ghost use Rattle.wasm_machine.specs.Values.{reference as reference_of};
 ghost use Rattle.wasm_machine.specs.Configurations.{image};
 ghost use Rattle.wasm_machine.specs.Acts.{Ready};
-ghost use Rattle.wasm_machine.specs.Reached.{FillWithin, CopyWithin};
-ghost use Rattle.wasm_machine.specs.Comings.{came_to, ProgressHeld, IfCame};
+ghost use Rattle.wasm_machine.specs.code.RangeProgress.{FillWithin, CopyWithin};
+ghost use Rattle.wasm_machine.specs.code.InstructionProgress.{came_to, ProgressHeld, IfCame};
 
 use crate::machine::Machine;
 use crate::next::{End, Next};
@@ -22,7 +22,7 @@ use wasm_rules::Algebra;
 /// What an instruction has come to: a question or an end that it says at once, or all that it needs is picked.
 #[derive(Drop)]
 pub enum Progress<W: Copy, P: Drop> {
-    Says(Next<W>),
+    Stops(Next<W>),
     At(P),
 }
 
@@ -70,11 +70,11 @@ pub fn address_at<A: Algebra>(
         ≡ came_to (A.means a.new) (λ at. go at (drop (k + 1) (own (image (A.means a.old) s.now)))) x) }
 {
     let Some(address) = word(a, s, k, false) else {
-        return Ok(Progress::Says(Next::Ends(End::Stuck)));
+        return Ok(Progress::Stops(Next::Ends(End::Stuck)));
     };
     match addressing(a, &s.answers, address, extent, size)? {
-        Reached::Ask(q, w) => Ok(Progress::Says(Next::Asks(q, w))),
-        Reached::OutOfBounds => Ok(Progress::Says(Next::Ends(End::Traps(cause)))),
+        Reached::Ask(q, w) => Ok(Progress::Stops(Next::Asks(q, w))),
+        Reached::OutOfBounds => Ok(Progress::Stops(Next::Ends(End::Traps(cause)))),
         Reached::At(at) => Ok(Progress::At(at)),
     }
 }
@@ -98,11 +98,11 @@ pub fn index_at<A: Algebra>(
         ≡ came_to (A.means a.new) (λ i. with_element cause (slice_get elements i) (λ r. go i r (drop (k + 1) (own (image (A.means a.old) s.now))))) x) }
 {
     let Some(index) = word(a, s, k, false) else {
-        return Ok(Progress::Says(Next::Ends(End::Stuck)));
+        return Ok(Progress::Stops(Next::Ends(End::Stuck)));
     };
     match indexing(a, &s.answers, index, size)? {
-        Reached::Ask(q, w) => Ok(Progress::Says(Next::Asks(q, w))),
-        Reached::OutOfBounds => Ok(Progress::Says(Next::Ends(End::Traps(cause)))),
+        Reached::Ask(q, w) => Ok(Progress::Stops(Next::Asks(q, w))),
+        Reached::OutOfBounds => Ok(Progress::Stops(Next::Ends(End::Traps(cause)))),
         Reached::At(i) => Ok(Progress::At(i)),
     }
 }
@@ -128,11 +128,11 @@ pub fn fill_at<A: Algebra>(
         ≡ came_to (A.means a.new) (λ r. go r.to r.count (drop 3 (own (image (A.means a.old) s.now)))) x) }
 {
     let Some(to) = word(a, s, 2, false) else {
-        return Ok(Progress::Says(Next::Ends(End::Stuck)));
+        return Ok(Progress::Stops(Next::Ends(End::Stuck)));
     };
     match filling(a, &s.answers, to, count, size)? {
-        Reached::Ask(q, w) => Ok(Progress::Says(Next::Asks(q, w))),
-        Reached::OutOfBounds => Ok(Progress::Says(Next::Ends(End::Traps(cause)))),
+        Reached::Ask(q, w) => Ok(Progress::Stops(Next::Asks(q, w))),
+        Reached::OutOfBounds => Ok(Progress::Stops(Next::Ends(End::Traps(cause)))),
         Reached::At(range) => Ok(Progress::At(range)),
     }
 }
@@ -156,17 +156,17 @@ pub fn copy_at<A: Algebra>(
         ≡ came_to (A.means a.new) (λ r. go r.to r.from r.count (drop 3 (own (image (A.means a.old) s.now)))) x) }
 {
     let Some(count) = word(a, s, 0, false) else {
-        return Ok(Progress::Says(Next::Ends(End::Stuck)));
+        return Ok(Progress::Stops(Next::Ends(End::Stuck)));
     };
     let Some(from) = word(a, s, 1, false) else {
-        return Ok(Progress::Says(Next::Ends(End::Stuck)));
+        return Ok(Progress::Stops(Next::Ends(End::Stuck)));
     };
     let Some(to) = word(a, s, 2, false) else {
-        return Ok(Progress::Says(Next::Ends(End::Stuck)));
+        return Ok(Progress::Stops(Next::Ends(End::Stuck)));
     };
     match copying(a, &s.answers, to, from, count, target_size, source_size)? {
-        Reached::Ask(q, w) => Ok(Progress::Says(Next::Asks(q, w))),
-        Reached::OutOfBounds => Ok(Progress::Says(Next::Ends(End::Traps(cause)))),
+        Reached::Ask(q, w) => Ok(Progress::Stops(Next::Asks(q, w))),
+        Reached::OutOfBounds => Ok(Progress::Stops(Next::Ends(End::Traps(cause)))),
         Reached::At(range) => Ok(Progress::At(range)),
     }
 }

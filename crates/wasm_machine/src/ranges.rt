@@ -8,7 +8,7 @@ ghost use Rattle.wasm_ast.specs.declared.runs.Cause.{Cause as OneCause};
 ghost use Rattle.wasm_rules.specs.Words.{Kept};
 ghost use Rattle.wasm_reduction.specs.Configurations.{Reference as OneReference, Value as OneValue, Config, Next as Step};
 ghost use Rattle.wasm_reduction.specs.Ranges.{with_element, indexing as indexing_of, ends_past as past_end, addressing as addressing_of, range_ends_past as range_past_end, filling as filling_of, copying as copying_of, growing as growing_of, growth_limit as growth_limit_of};
-ghost use Rattle.wasm_machine.specs.Reached.{reached, AskHeld, IfAt, FillWithin, CopyWithin, grows, GrowthAsks, IfGrows};
+ghost use Rattle.wasm_machine.specs.code.RangeProgress.{reached, AskHeld, IfAt, FillWithin, CopyWithin, grows, GrowthAsks, IfGrows};
 
 use crate::next::Question;
 use std::alloc::AllocError;

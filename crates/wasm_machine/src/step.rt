@@ -14,10 +14,10 @@ use crate::branches::{br, br_if, br_table, return_values};
 use crate::calls::{call, call_indirect};
 use crate::control::{block, end, if_else, nop, repeat};
 use crate::machine::Machine;
-use crate::memories::{
+use crate::memory::Memory;
+use crate::memory_instructions::{
     data_drop, load, memory_copy, memory_fill, memory_grow, memory_init, memory_size, store,
 };
-use crate::memory::Memory;
 use crate::next::{End, Next};
 use crate::numeric::{const32, const64, num};
 use crate::parametric::{discard, select};

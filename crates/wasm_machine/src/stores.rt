@@ -3,7 +3,8 @@ ghost use Rattle.std.specs.Prelude.{◌≡◌, ◌+◌, ◌<◌, ◌≤◌, ◌+
 ghost use Rattle.wasm_reduction.specs.Combinators.{written, part};
 ghost use Rattle.wasm_machine.specs.declared.values.Reference.{Reference as OneReference};
 ghost use Rattle.wasm_machine.specs.Configurations.{datas_of};
-ghost use Rattle.wasm_machine.specs.Stores.{list_at, with_table, without_elem, without_data};
+ghost use Rattle.wasm_machine.specs.Stores.{list_at};
+ghost use Rattle.wasm_machine.specs.code.Moves.{with_table, without_elem, without_data};
 
 use crate::machine::Machine;
 use crate::values::Reference;

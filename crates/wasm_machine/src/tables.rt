@@ -32,7 +32,7 @@ pub fn table_get<A: Algebra>(
         return Ok(Next::Ends(End::Stuck));
     };
     match index_at(a, s, 0, size, Cause::Table)? {
-        Progress::Says(n) => Ok(n),
+        Progress::Stops(n) => Ok(n),
         Progress::At(i) => {
             let Some(r) = s.element(x, i as usize) else {
                 return Ok(Next::Ends(End::Traps(Cause::Table)));
@@ -62,7 +62,7 @@ pub fn table_set<A: Algebra>(
         return Ok(Next::Ends(End::Stuck));
     };
     match index_at(a, s, 1, size, Cause::Table)? {
-        Progress::Says(n) => Ok(n),
+        Progress::Stops(n) => Ok(n),
         Progress::At(i) => {
             s.pass();
             s.discard(2);
@@ -152,7 +152,7 @@ pub fn table_fill<A: Algebra>(
         return Ok(Next::Ends(End::Stuck));
     };
     match fill_at(a, s, count, size, Cause::Table)? {
-        Progress::Says(n) => Ok(n),
+        Progress::Stops(n) => Ok(n),
         Progress::At(range) => {
             s.pass();
             s.discard(3);
@@ -180,7 +180,7 @@ pub fn table_copy<A: Algebra>(
         return Ok(Next::Ends(End::Stuck));
     };
     match copy_at(a, s, target, source, Cause::Table)? {
-        Progress::Says(n) => Ok(n),
+        Progress::Stops(n) => Ok(n),
         Progress::At(range) => {
             s.pass();
             s.discard(3);
@@ -214,7 +214,7 @@ pub fn table_init<A: Algebra>(
         return Ok(Next::Ends(End::Stuck));
     };
     match copy_at(a, s, target, source, Cause::Table)? {
-        Progress::Says(n) => Ok(n),
+        Progress::Stops(n) => Ok(n),
         Progress::At(range) => {
             s.pass();
             s.discard(3);

@@ -16,7 +16,8 @@ use Rattle.wasm_reduction.specs.Control.{given, give_back, finish}
 use Rattle.wasm_reduction.specs.Steps.{act, step, step_code, answered, with_symbol}
 use Rattle.wasm_reduction.specs.Runs.{Trace, Going, Halt, Stands, Ended, Deep, Bound, Turned, On, Over, Reply, replied, follow_by, is_due, follow, then_follow, follows, most_frames}
 use Rattle.wasm_reduction.proofs.Moves.{Same, IsAgain, Called, Moves, Stays, Enters, Leaves, GivesBack, Calls, most_questions, Legal, act-legal}
-use Rattle.wasm_reduction.proofs.Endings.{bottom, AreCalls, IsOutermost, Ready, SameEnd, bottom-same, symbol-same, body_questions, function_questions, CallMoves, call-moves, moves-units, moves-answers, moves-bottom}
+use Rattle.wasm_reduction.specs.Outermost.{bottom, AreCalls, IsOutermost, Ready}
+use Rattle.wasm_reduction.proofs.Endings.{SameEnd, bottom-same, symbol-same, body_questions, function_questions, CallMoves, call-moves, moves-units, moves-answers, moves-bottom}
 
 -- ---- no instruction asks 2^32 questions or more
 

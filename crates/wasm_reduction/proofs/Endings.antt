@@ -17,6 +17,7 @@ use Rattle.wasm_reduction.specs.Combinators.{cost_under, past, holding, with_fou
 use Rattle.wasm_reduction.specs.Control.{given, give_back, finish, frame_of, calling_host, calling, call}
 use Rattle.wasm_reduction.specs.Steps.{act, step, step_code, answered, with_symbol}
 use Rattle.wasm_reduction.specs.Runs.{Trace, Going, Halt, Deep, Bound, Turned, On, Over, Reply, replied, follow_by, is_due, follow, then_follow, follows, most_frames}
+use Rattle.wasm_reduction.specs.Outermost.{bottom, AreCalls, IsOutermost, Ready}
 use Rattle.wasm_reduction.proofs.Moves.{Same, Called, Moves, Stays, Enters, Leaves, GivesBack, Calls, most_questions, Legal, act-legal}
 
 abbrev pub frames_size : {W : Type 0} → List (Frame W) → ℕ
@@ -26,23 +27,6 @@ frames_size (f ∷ fs) = 1 + length f.outer + frames_size fs
 -- how many labels and calls are open
 abbrev pub size : {W : Type 0} → Config W → ℕ
 size c = length c.frame.outer + frames_size c.callers
-
--- the outermost frame
-abbrev pub bottom : {W : Type 0} → Frame W → List (Frame W) → Frame W
-bottom f [] = f
-bottom f (g ∷ gs) = bottom g gs
-
-abbrev pub AreCalls : List Instr → Type 0
-AreCalls [] = Unit {0}
-AreCalls (i ∷ is) = ((x : ℕ) × (i ≡ Call x)) × AreCalls is
-
--- the outermost frame has no label but its own, and calls alone
-pub record IsOutermost {W : Type 0} (f : Frame W) : Type 0 where
-  pub outer : f.outer ≡ []
-  pub calls : AreCalls f.here.code
-
-abbrev pub Ready : {W : Type 0} → Config W → Type 0
-Ready c = IsOutermost (bottom c.frame c.callers)
 
 -- what falls, but where a question is asked: room for units, calls of the outermost frame, open labels and calls
 abbrev pub weight : {W : Type 0} → ℕ → Config W → ℕ

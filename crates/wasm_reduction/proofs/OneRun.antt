@@ -9,7 +9,8 @@ use Rattle.wasm_reduction.specs.Steps.{step}
 use Rattle.wasm_reduction.specs.Instantiation.{invoked, instantiated}
 use Rattle.wasm_reduction.specs.Runs.{Trace, Going, Halt, Stands, Ended, Bound, Deep, Turned, On, Over, follow_by, is_due, follows, most_frames, then_follow, started_by, started, by_value, run_of, Run, runs_at, IsRun}
 use Rattle.wasm_reduction.specs.Laws.{ComesToAnEnd}
-use Rattle.wasm_reduction.proofs.Endings.{Ready, runs-end, runs-agree}
+use Rattle.wasm_reduction.specs.Outermost.{Ready}
+use Rattle.wasm_reduction.proofs.Endings.{runs-end, runs-agree}
 
 -- what a run begins with: it is over at once, or goes on from a configuration whose outermost frame calls alone
 abbrev pub Begins : {W : Type 0} → Turned W → Type 0

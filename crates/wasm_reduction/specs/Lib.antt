@@ -19,3 +19,4 @@ pub mod Widths
 pub mod Laws
 pub mod Examples
 pub mod ScriptExamples
+pub mod Outermost

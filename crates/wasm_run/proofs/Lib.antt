@@ -6,10 +6,10 @@ pub mod ByteLemmas
 pub mod WrittenLemmas
 pub mod ZeroLemmas
 pub mod PageLemmas
-pub mod QuickLemmas
-pub mod AccessQuickLemmas
-pub mod TestLemmas
-pub mod CallQuickLemmas
-pub mod TableQuickLemmas
-pub mod RareQuickLemmas
-pub mod EntryQuickLemmas
+pub mod FastPathLemmas
+pub mod FastAccessLemmas
+pub mod FastTestLemmas
+pub mod FastCallLemmas
+pub mod FastTableLemmas
+pub mod FastRareLemmas
+pub mod FastIndirectLemmas

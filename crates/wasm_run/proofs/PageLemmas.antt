@@ -8,7 +8,7 @@ use Rattle.std.proofs.lemmas.Slice.{take-put_mid}
 use borrow.Rule.Slice.PartMut.{put_mid, post_of}
 use Rattle.wasm_reduction.specs.Combinators.{written, part}
 use Rattle.wasm_reduction.specs.Memories.{page_bytes}
-use Rattle.wasm_run.specs.Pages.{Page, fresh, page_of, AreWhole, AreHeld, Writes, cells_of, held_of}
+use Rattle.wasm_run.specs.code.Pages.{Page, fresh, page_of, AreWhole, AreHeld, Writes, cells_of, held_of}
 use Rattle.wasm_run.proofs.WrittenLemmas.{written-left, written-right, written-past, written-before, part-left, part-right, part-past, part-before, part-more, take_piece}
 use Rattle.wasm_machine.proofs.CellLemmas.{length-written}
 

@@ -11,7 +11,7 @@ use Rattle.wasm_reduction.specs.Configurations.{Question, Config, End, Next, Goe
 use Rattle.wasm_reduction.specs.Steps.{step, answered, with_symbol}
 use Rattle.wasm_reduction.specs.Runs.{Going, Ended, Bound, Deep, Turned, On, Over, Reply, follow, follow_by, follows, then_follow, started, is_due, most_frames, by_value, answer_of, run_of, runs_at, draws_from, outcome_of_end}
 use Rattle.wasm_run.specs.Bounded.{RunGives}
-use Rattle.wasm_run.specs.Places.{Place, IsFree, IsFit, ComesTo, Settled, IsInOrder, config_at}
+use Rattle.wasm_run.specs.code.Places.{Place, IsFree, IsFit, ComesTo, Settled, IsInOrder, config_at}
 use Rattle.wasm_machine.specs.declared.values.Value.{Value as CodeValue}
 use Rattle.wasm_machine.specs.States.{State}
 

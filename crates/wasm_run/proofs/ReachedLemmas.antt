@@ -21,12 +21,13 @@ use Rattle.wasm_reduction.specs.Instantiation.{instantiated, invoked, first_conf
 use Rattle.wasm_reduction.specs.Widths.{HasWidths, NextHasWidths}
 use Rattle.wasm_reduction.specs.Runs.{Trace, Going, Deep, Bound, Turned, On, Over, Ended, follow, follow_by, follows, then_follow, started, started_by, no_trace, is_due, most_frames, by_value, answer_of, outcome_of_end, run_of, runs_at}
 use Rattle.wasm_reduction.proofs.Moves.{Legal, act-legal}
-use Rattle.wasm_reduction.proofs.Endings.{Ready, Falls, weight, left, moves-units, step-falls, symbol-same, turn-progress}
+use Rattle.wasm_reduction.specs.Outermost.{Ready}
+use Rattle.wasm_reduction.proofs.Endings.{Falls, weight, left, moves-units, step-falls, symbol-same, turn-progress}
 use Rattle.wasm_reduction.proofs.OneRun.{begins, Begins}
 use Rattle.wasm_reduction.proofs.WideSteps.{step-wide, answered-wide, symbol-wide}
 use Rattle.wasm_reduction.proofs.WideStarts.{code-in-range, first-wide}
 use Rattle.wasm_run.specs.Bounded.{RunGives}
-use Rattle.wasm_run.specs.Places.{IsAsked, Place, IsFree, IsFit, Settled}
+use Rattle.wasm_run.specs.code.Places.{IsAsked, Place, IsFree, IsFit, Settled}
 use Rattle.wasm_run.proofs.PlaceLemmas.{turn_last, place_goes, place_draws, place_settled, run_ends, run_is_over}
 
 module _ (m : Module) (entry : ℕ) (args : List Argument) (input : List ℕ) (steps : ℕ) where
@@ -126,7 +127,7 @@ module _ (m : Module) (entry : ℕ) (args : List Argument) (input : List ℕ) (s
   starts-wide (Err e) g is f = absurd cc
   starts-wide (Ok c) g is f =
       let same : c ≡ g.config = ap (λ g. g.config) (let f : record { config = c; trace = no_trace } ≡ g = cc in f) in
-      subst Wide same (first-wide HasNumber numbers numbers-give m entry args c asked.has_numbers asked.valid asked.can.ready asked.fitting is)
+      subst Wide same (first-wide HasNumber numbers numbers-give m entry args c asked.has_numbers asked.valid asked.can.ready asked.arguments_fit is)
 
   followed-wide : (s t : Going ℕ) (x : Next ℕ) → Wide s.config → NextHasWidths HasNumber x → follow_by (taken input) by_value s x ≡ On t → Wide t.config
   followed-wide s t (Goes d) h w f = subst Wide (ap (λ g. g.config) (let f : record s { config = d } ≡ t = cc in f)) w

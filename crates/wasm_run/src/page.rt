@@ -4,7 +4,7 @@ ghost use Rattle.wasm_rules.specs.Words.{numbers, HasNumber};
 ghost use Rattle.wasm_rules.specs.Accesses.{load_of, store_of, load_bytes, load_bits, loaded, stored};
 ghost use Rattle.wasm_reduction.specs.Combinators.{written, part};
 ghost use Rattle.wasm_reduction.specs.Memories.{page_bytes};
-ghost use Rattle.wasm_run.specs.Pages.{fresh};
+ghost use Rattle.wasm_run.specs.code.Pages.{fresh};
 
 use crate::accesses::{loaded_number, store_number};
 use std::alloc::{AllocError, Global};
@@ -22,7 +22,7 @@ pub struct Page {
 impl Model for Page {
     ghost use Rattle.std.specs.Prelude.{◌≡◌, length};
     ghost use Rattle.wasm_reduction.specs.Memories.{page_bytes};
-    ghost use Rattle.wasm_run.specs.Pages.{Page as OnePage, page_of};
+    ghost use Rattle.wasm_run.specs.code.Pages.{Page as OnePage, page_of};
 
     ghost Value = { OnePage };
 

@@ -1,23 +1,22 @@
 // The turns of a bounded run: in each the questions of the next instruction, answered by their numbers, and then its last step.
-ghost use Rattle.std.specs.Prelude.{◌≡◌, ◌≢◌, ◌++◌, ◌∷◌, [], ◌<◌, ◌^◌, List as Items, ℕ, IfOk, OnOk, None, Some, ◌&&◌, nat_lt, nat_le, length, map, slice_index};
-ghost use Rattle.wasm_ast.specs.declared.modules.Module.{Module as OneModule};
+ghost use Rattle.std.specs.Prelude.{◌≡◌, ◌≢◌, ◌++◌, ◌∷◌, [], ◌<◌, ◌^◌, IfOk, OnOk, Some, length, map, slice_index};
 ghost use Rattle.wasm_rules.specs.Words.{HasNumber, taken};
 ghost use Rattle.wasm_image.specs.Hosts.{AreLinked};
 ghost use Rattle.wasm_reduction.specs.Configurations.{Stuck};
 ghost use Rattle.wasm_reduction.specs.Maps.{ValueHas, ValuesHave};
-ghost use Rattle.wasm_reduction.specs.Runs.{answer_of, is_due as is_due_at, most_frames, outcome_of_end, plain_value};
+ghost use Rattle.wasm_reduction.specs.Runs.{answer_of, outcome_of_end, plain_value};
 ghost use Rattle.wasm_reduction.specs.Widths.{EndHasWidths};
-ghost use Rattle.wasm_machine.specs.Configurations.{code_of};
-ghost use Rattle.wasm_machine.specs.Moves.{pushed};
+ghost use Rattle.wasm_machine.specs.code.Moves.{pushed};
 ghost use Rattle.wasm_machine.specs.Values.{question as question_of, value as value_as, valued, end_of};
 ghost use Rattle.wasm_run.specs.Bounded.{RunGives};
-ghost use Rattle.wasm_run.specs.Places.{IsAsked, IsInOrder, IsInOrderAfter, config_at, told_at, Place, IsFit, Settled};
+ghost use Rattle.wasm_run.specs.code.Places.{IsAsked, IsInOrder, IsInOrderAfter, config_at, told_at, Place, IsFit, Settled};
 
 use crate::bytes::Bytes;
-use crate::quick::at_once;
+use crate::fast_path::fast_step;
 use std::alloc::{AllocError, Global};
-use wasm_ast::{Draw, List, Module, Outcome, Ran, Value};
+use wasm_ast::{Draw, List, Outcome, Ran, Value};
 use wasm_image::Image;
+use wasm_machine::bounds::{is_deep, is_spent};
 use wasm_machine::machine::Machine;
 use wasm_machine::next::{End, Next, Question};
 use wasm_machine::step::step;
@@ -33,8 +32,6 @@ pub struct Request<'a> {
     pub input: &'a [u64],
     pub steps: u64,
 }
-
-const MOST_FRAMES: usize = 1_024;
 
 /// One turn after another, to the end.
 pub fn go(
@@ -52,19 +49,19 @@ pub fn go(
 {
     let mut draws = Vec::new(alloc);
     'turning: loop {
-        if is_deep(s) {
+        if is_deep(numbers, s) {
             return Ok(Ran {
                 outcome: Outcome::Deep,
                 draws: List::new(draws),
             });
         }
-        if is_spent(s, request.image.module(), request.steps) {
+        if is_spent(numbers, s, request.image.module(), request.steps) {
             return Ok(Ran {
                 outcome: Outcome::Bound,
                 draws: List::new(draws),
             });
         }
-        if at_once(alloc, request.image, request.steps, numbers, s, memory)? {
+        if fast_step(alloc, request.image, request.steps, numbers, s, memory)? {
             continue 'turning;
         }
         match settle(alloc, request.image, request.steps, numbers, s, memory)? {
@@ -83,47 +80,6 @@ pub fn go(
             Next::Asks(_, _) => unreachable!(),
         }
     }
-}
-
-// Whether the bound on frames is passed.
-#[tactic(auto, using(crate::proofs::TurnLemmas::is_deep_by))]
-fn is_deep(s: &Machine<u64>) -> bool
-    ensures { (m : OneModule) (bytes : Items ℕ) → result ≡ nat_lt most_frames (length (config_at m bytes s.now).callers) }
-{
-    s.depth() > MOST_FRAMES
-}
-
-// Whether all units are spent, and an instruction is next, which costs one.
-#[tactic(auto, using(crate::proofs::TurnLemmas::spent_no, crate::proofs::TurnLemmas::spent_yes))]
-fn is_spent(s: &Machine<u64>, m: &Module, steps: u64) -> bool
-    ensures { (bytes : Items ℕ) → result ≡ (is_due_at (config_at m.now bytes s.now).frame.here.code (config_at m.now bytes s.now).callers && nat_le steps s.now.units) }
-{
-    if s.units < steps {
-        return false;
-    }
-    is_due(s, m)
-}
-
-// Whether an instruction of a function is next.
-#[cold]
-#[inline(never)]
-fn is_due(s: &Machine<u64>, m: &Module) -> bool
-    ensures { (bytes : Items ℕ) → result ≡ is_due_at (config_at m.now bytes s.now).frame.here.code (config_at m.now bytes s.now).callers }
-{
-    if s.depth() == 0 {
-        return false;
-    }
-    match s.frame.func {
-        Some(f) => s.instruction(f, m).is_some(),
-        None => s.frame.here.place < outer_calls(m),
-    }
-}
-
-// How many calls the outermost frame makes: that of the start function, where there is one, and that of the entry.
-fn outer_calls(m: &Module) -> usize
-    ensures { (entry : ℕ) → result ≡ length (code_of m.now entry None 0) }
-{
-    if m.start.is_some() { 2 } else { 1 }
 }
 
 // Answers what the next instruction asks, and carries out its last step.

@@ -1,6 +1,6 @@
 use Rattle.std.proofs.Common.{arith}
 use Rattle.std.specs.Prelude.{false}
-use Rattle.wasm_machine.specs.Moves.{own}
+use Rattle.wasm_machine.specs.States.{own}
 use Rattle.wasm_machine.proofs.Images.{word_at-some}
 use Rattle.wasm_machine.proofs.NumericLaws.{own-word-held, own-within}
 use Rattle.wasm_machine.proofs.BranchLaws.{br_if-stuck, br_if-asks, br_if-falls, br_if-goes, sane-below}

@@ -1,6 +1,6 @@
 use Rattle.std.proofs.Common.{ap, sym, arith}
 use Rattle.std.specs.Prelude.{false, length}
-use Rattle.wasm_machine.specs.Moves.{own}
+use Rattle.wasm_machine.specs.States.{own}
 use Rattle.wasm_machine.proofs.Images.{word_at-some}
 use Rattle.wasm_machine.proofs.NumericLaws.{own-word-held, own-word-wide, own-within}
 use Rattle.wasm_machine.proofs.BranchLaws.{table-stuck, table-asks, table-goes, sane-below, choice-small}

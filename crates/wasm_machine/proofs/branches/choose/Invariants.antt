@@ -1,5 +1,5 @@
 use Rattle.std.proofs.Common.{◌≡◌, drop}
-use Rattle.wasm_machine.specs.Choices.{choice_of}
+use Rattle.wasm_machine.specs.code.Choices.{choice_of}
 use Rattle.wasm_machine.proofs.branches.choose.Given as goal
 
 abbrev pub invariant-loop-k : goal.invariant-loop-k

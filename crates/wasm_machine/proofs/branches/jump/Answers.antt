@@ -1,6 +1,6 @@
 use Rattle.std.proofs.Common.{sym, ◌∙◌, arith, subst}
 use Rattle.std.specs.Prelude.{◌≤◌, ◌<◌, length}
-use Rattle.wasm_machine.specs.Moves.{own}
+use Rattle.wasm_machine.specs.States.{own}
 use Rattle.wasm_machine.proofs.Steps.{length-own}
 use Rattle.wasm_machine.proofs.LabelLaws.{label-short, branch-room}
 use Rattle.wasm_machine.proofs.BranchLaws.{branch-beyond, branch-few, branch-last, branch-goes, arity-within}
@@ -11,10 +11,10 @@ give_back-requires-clause-within g c = arity-within c.args.s.now c.label-arity.r
 
 pub branch-s-requires : goal.branch-s-requires
 branch-s-requires g c = record {
-  within = omega (arith, c.if-k-count.false, c.if-k-count-2.false, c.label_count-count.ensures, c.requires.lies.frame.labels_within);
-  room = branch-room c.args.s.now c.args.l c.requires.lies (omega (arith, c.if-k-count.false, c.label_count-count.ensures, c.requires.lies.frame.labels_within))
+  within = omega (arith, c.if-k-count.false, c.if-k-count-2.false, c.label_count-count.ensures, c.requires.well_formed.frame.labels_within);
+  room = branch-room c.args.s.now c.args.l c.requires.well_formed (omega (arith, c.if-k-count.false, c.label_count-count.ensures, c.requires.well_formed.frame.labels_within))
       (subst (λ t. t.arity ≤ length (own c.args.s.now)) c.label-arity.ensures (arity-within c.args.s.now c.label-arity.result.arity (length c.args.s.now.operands) _ c.own_count.ensures c.if-own_count-arity.false));
-  place = label-short c.args.s.now.frame.here c.args.s.now.labels c.args.l c.requires.lies.short (omega (arith, c.if-k-count.false, c.if-k-count-2.false, c.label_count-count.ensures, c.requires.lies.frame.labels_within));
+  place = label-short c.args.s.now.frame.here c.args.s.now.labels c.args.l c.requires.well_formed.short (omega (arith, c.if-k-count.false, c.if-k-count-2.false, c.label_count-count.ensures, c.requires.well_formed.frame.labels_within));
 }
 
 pub returns-then-k-count : goal.returns-then-k-count

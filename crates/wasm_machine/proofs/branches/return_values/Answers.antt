@@ -1,6 +1,6 @@
 use Rattle.std.proofs.Common.{sym, subst, arith}
 use Rattle.std.specs.Prelude.{◌≤◌, length}
-use Rattle.wasm_machine.specs.Moves.{own}
+use Rattle.wasm_machine.specs.States.{own}
 use Rattle.wasm_machine.specs.Acts.{Sane}
 use Rattle.wasm_machine.proofs.Steps.{length-own}
 use Rattle.wasm_machine.proofs.Images.{sane-passed}

@@ -3,7 +3,7 @@ use Rattle.std.specs.Prelude.{false, ◌+◌}
 use Rattle.wasm_image.specs.declared.hosts.Host.TheVariants.{Assert as AssertHost}
 use Rattle.wasm_reduction.specs.Configurations.{Goes, Ends, Fails}
 use Rattle.wasm_reduction.specs.Combinators.{holding, testing}
-use Rattle.wasm_machine.specs.Moves.{own}
+use Rattle.wasm_machine.specs.States.{own}
 use Rattle.wasm_machine.proofs.Images.{word_at-some}
 use Rattle.wasm_machine.proofs.NumericLaws.{own-within, own-word-held}
 use Rattle.wasm_machine.proofs.CallLaws.{host-stuck, assert-asks, assert-ends, assert-goes}

@@ -3,7 +3,7 @@ use Rattle.std.specs.Prelude.{false, ◌+◌}
 use Rattle.wasm_image.specs.declared.hosts.Host.TheVariants.{Assume as AssumeHost}
 use Rattle.wasm_reduction.specs.Configurations.{Goes, Ends, Assumes}
 use Rattle.wasm_reduction.specs.Combinators.{holding, assuming}
-use Rattle.wasm_machine.specs.Moves.{own}
+use Rattle.wasm_machine.specs.States.{own}
 use Rattle.wasm_machine.proofs.Images.{word_at-some}
 use Rattle.wasm_machine.proofs.NumericLaws.{own-within, own-word-held}
 use Rattle.wasm_machine.proofs.CallLaws.{host-stuck, assume-asks, assume-ends, assume-goes}

@@ -1,7 +1,7 @@
 use Rattle.std.proofs.Common.{sym, arith, subst}
 use Rattle.std.specs.Prelude.{false}
 use Rattle.wasm_ast.specs.declared.runs.Cause.TheVariants.{Undefined}
-use Rattle.wasm_machine.specs.Moves.{own}
+use Rattle.wasm_machine.specs.States.{own}
 use Rattle.wasm_machine.specs.Acts.{Ready}
 use Rattle.wasm_machine.proofs.Images.{word_at-some}
 use Rattle.wasm_machine.proofs.NumericLaws.{own-word-held, own-word-wide}

@@ -1,6 +1,6 @@
 use Rattle.std.proofs.Common.{sym, subst, arith}
 use Rattle.std.specs.Prelude.{false}
-use Rattle.wasm_machine.specs.Moves.{own}
+use Rattle.wasm_machine.specs.States.{own}
 use Rattle.wasm_machine.specs.Acts.{Sane}
 use Rattle.wasm_machine.proofs.Images.{word_at-some, sane-without}
 use Rattle.wasm_machine.proofs.NumericLaws.{own-word-held}

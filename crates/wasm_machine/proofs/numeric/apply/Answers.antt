@@ -1,5 +1,6 @@
 use Rattle.std.proofs.Common.{subst, sym, ap, ◌∙◌, arith}
-use Rattle.wasm_machine.specs.Moves.{own, replaced}
+use Rattle.wasm_machine.specs.States.{own}
+use Rattle.wasm_machine.specs.code.Moves.{replaced}
 use Rattle.wasm_reduction.specs.Configurations.{Test, Asks}
 use Rattle.wasm_machine.proofs.Images.{word_at-some}
 use Rattle.wasm_machine.proofs.ActLaws.{ask-acts, trap-acts}

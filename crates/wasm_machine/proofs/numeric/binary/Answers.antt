@@ -1,6 +1,6 @@
 use Rattle.std.proofs.Common.{ap, ◌∙◌}
 use Rattle.wasm_machine.specs.Values.{word_at}
-use Rattle.wasm_machine.specs.Moves.{own}
+use Rattle.wasm_machine.specs.States.{own}
 use Rattle.wasm_machine.proofs.NumericLaws.{binary-lacks-second, binary-lacks-first}
 use Rattle.wasm_machine.proofs.numeric.binary.Goals as goal
 

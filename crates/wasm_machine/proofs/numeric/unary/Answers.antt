@@ -1,6 +1,7 @@
 use Rattle.std.proofs.Common.{subst, sym, ap, ◌∙◌, arith}
 use Rattle.wasm_machine.specs.Values.{word_at}
-use Rattle.wasm_machine.specs.Moves.{own, replaced}
+use Rattle.wasm_machine.specs.States.{own}
+use Rattle.wasm_machine.specs.code.Moves.{replaced}
 use Rattle.wasm_machine.proofs.Images.{word_at-some}
 use Rattle.wasm_machine.proofs.NumericLaws.{one-unary, operand-bits, own-word-held, operand-wide, unary-stuck, unary-goes, own-within}
 use Rattle.wasm_machine.proofs.numeric.unary.Goals as goal

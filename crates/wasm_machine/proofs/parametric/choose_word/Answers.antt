@@ -1,7 +1,7 @@
 use Rattle.std.specs.Prelude.{false}
 use Rattle.std.proofs.Common.{ap, ◌∙◌, inl, inr}
 use Rattle.wasm_machine.specs.Values.{valued as code_valued}
-use Rattle.wasm_machine.specs.Moves.{replaced}
+use Rattle.wasm_machine.specs.code.Moves.{replaced}
 use Rattle.wasm_machine.proofs.NumericLaws.{own-word-held, own-word-wide}
 use Rattle.wasm_machine.proofs.ParametricLaws.{word-unlike, word-chosen, valued-word, other-word, three-within}
 use Rattle.wasm_machine.proofs.parametric.choose_word.Goals as goal

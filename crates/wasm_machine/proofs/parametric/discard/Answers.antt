@@ -1,6 +1,6 @@
 use Rattle.std.proofs.Common.{sym, arith}
 use Rattle.std.proofs.lemmas.Option.{slice_get_within}
-use Rattle.wasm_machine.specs.Moves.{own}
+use Rattle.wasm_machine.specs.States.{own}
 use Rattle.wasm_machine.proofs.NumericLaws.{own-within}
 use Rattle.wasm_machine.proofs.ParametricLaws.{discard-stuck, discard-goes}
 use Rattle.wasm_machine.proofs.parametric.discard.Goals as goal

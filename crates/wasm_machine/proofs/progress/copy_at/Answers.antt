@@ -1,7 +1,7 @@
 use Rattle.std.proofs.Common.{◌∙◌, ap, drop}
-use Rattle.wasm_machine.specs.Moves.{own}
+use Rattle.wasm_machine.specs.States.{own}
 use Rattle.wasm_machine.specs.Configurations.{image}
-use Rattle.wasm_machine.specs.Reached.{reached}
+use Rattle.wasm_machine.specs.code.RangeProgress.{reached}
 use Rattle.wasm_machine.proofs.ProgressLaws.{copy-says}
 use Rattle.wasm_machine.proofs.progress.copy_at.Goals as goal
 

@@ -1,9 +1,9 @@
 use Rattle.std.proofs.Common.{◌∙◌, ap, ◌+◌, drop}
 use Rattle.std.specs.Prelude.{slice_get}
 use Rattle.wasm_reduction.specs.Ranges.{with_element}
-use Rattle.wasm_machine.specs.Moves.{own}
+use Rattle.wasm_machine.specs.States.{own}
 use Rattle.wasm_machine.specs.Configurations.{image}
-use Rattle.wasm_machine.specs.Reached.{reached}
+use Rattle.wasm_machine.specs.code.RangeProgress.{reached}
 use Rattle.wasm_machine.proofs.ProgressLaws.{index-says}
 use Rattle.wasm_machine.proofs.progress.index_at.Goals as goal
 

@@ -2,8 +2,8 @@ use Rattle.std.proofs.Common.{◌<◌, sym, ap, ◌∙◌, subst, arith, map, le
 use Rattle.std.specs.Prelude.{replicate}
 use Rattle.wasm_ast.specs.declared.instructions.Instr.TheVariants.{TableFill}
 use Rattle.wasm_reduction.specs.Combinators.{written}
-use Rattle.wasm_machine.specs.Moves.{without}
-use Rattle.wasm_machine.specs.Stores.{list_at, with_table}
+use Rattle.wasm_machine.specs.code.Moves.{without, with_table}
+use Rattle.wasm_machine.specs.Stores.{list_at}
 use Rattle.wasm_machine.specs.Values.{reference}
 use Rattle.wasm_machine.proofs.CellLemmas.{map-written}
 use Rattle.wasm_machine.proofs.ActLaws.{stuck-acts}
@@ -12,8 +12,8 @@ use Rattle.wasm_machine.proofs.MemoryLaws.{at-fact, at-came, map-replicate}
 use Rattle.wasm_machine.proofs.TableLaws.{found-list, list-there, table-acts, table-fill-came}
 use Rattle.wasm_machine.proofs.tables.table_fill.Goals as goal
 
-pub returns-in-Says-clause-acts : goal.returns-in-Says-clause-acts
-returns-in-Says-clause-acts g c = λ m. came-acts g.A.Algebra.holds g.A.Algebra.means g.A.Algebra.kind m (TableFill c.args.x) c.args.a.now c.fill_at.new.a c.in_ok-n.ensures.keeps c.args.s.now c.requires.sane c.in_ok-n.field-0 c.in-Says.n _ c.in_ok-n.ensures.held c.in-Says.is
+pub returns-in-Stops-clause-acts : goal.returns-in-Stops-clause-acts
+returns-in-Stops-clause-acts g c = λ m. came-acts g.A.Algebra.holds g.A.Algebra.means g.A.Algebra.kind m (TableFill c.args.x) c.args.a.now c.fill_at.new.a c.in_ok-n.ensures.keeps c.args.s.now c.requires.sane c.in_ok-n.field-0 c.in-Stops.n _ c.in_ok-n.ensures.held c.in-Stops.is
     (table-fill-came g.A.Algebra.holds g.A.Algebra.means g.A.Algebra.kind m c.args.a.now c.args.s.now c.requires.sane (g.A.Algebra.means c.fill_at.new.a) c.in_ok-n.field-0 c.args.x c.in-Some.size (g.A.Algebra.means c.args.a.now c.in-Some-word.count) c.in-Some-reference.r c.in-Some.ensures c.in-Some-word.ensures.found c.in-Some-reference.ensures.found c.in_ok-n.ensures.says)
 
 pub returns-in-At-clause-acts : goal.returns-in-At-clause-acts

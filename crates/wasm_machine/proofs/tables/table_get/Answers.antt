@@ -8,8 +8,8 @@ use Rattle.wasm_machine.proofs.MemoryLaws.{at-fact, at-came}
 use Rattle.wasm_machine.proofs.TableLaws.{found-element, get-came}
 use Rattle.wasm_machine.proofs.tables.table_get.Goals as goal
 
-pub returns-in-Says-clause-acts : goal.returns-in-Says-clause-acts
-returns-in-Says-clause-acts g c = λ m. came-acts g.A.Algebra.holds g.A.Algebra.means g.A.Algebra.kind m (TableGet c.args.x) c.args.a.now c.index_at.new.a c.in_ok-n.ensures.keeps c.args.s.now c.requires.ready.sane c.in_ok-n.field-0 c.in-Says.n _ c.in_ok-n.ensures.held c.in-Says.is
+pub returns-in-Stops-clause-acts : goal.returns-in-Stops-clause-acts
+returns-in-Stops-clause-acts g c = λ m. came-acts g.A.Algebra.holds g.A.Algebra.means g.A.Algebra.kind m (TableGet c.args.x) c.args.a.now c.index_at.new.a c.in_ok-n.ensures.keeps c.args.s.now c.requires.ready.sane c.in_ok-n.field-0 c.in-Stops.n _ c.in_ok-n.ensures.held c.in-Stops.is
     (get-came g.A.Algebra.holds g.A.Algebra.means g.A.Algebra.kind m c.args.a.now c.args.s.now c.requires.ready.sane (g.A.Algebra.means c.index_at.new.a) c.in_ok-n.field-0 c.args.x c.in-Some.size c.in-Some.ensures c.in_ok-n.ensures.says)
 
 pub returns-in-Some-element-clause-acts : goal.returns-in-Some-element-clause-acts

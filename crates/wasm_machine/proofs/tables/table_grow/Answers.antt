@@ -4,8 +4,8 @@ use Rattle.std.proofs.lemmas.List.{map-append}
 use Rattle.wasm_ast.specs.declared.instructions.Instr.TheVariants.{TableGrow}
 use Rattle.wasm_reduction.specs.Configurations.{I32}
 use Rattle.wasm_machine.specs.declared.values.Value.TheVariants.{I32 as CodeI32}
-use Rattle.wasm_machine.specs.Moves.{replaced}
-use Rattle.wasm_machine.specs.Stores.{list_at, with_table}
+use Rattle.wasm_machine.specs.code.Moves.{replaced, with_table}
+use Rattle.wasm_machine.specs.Stores.{list_at}
 use Rattle.wasm_machine.specs.Values.{reference}
 use Rattle.wasm_machine.proofs.ActLaws.{put-acts, stuck-acts, ask-acts}
 use Rattle.wasm_machine.specs.declared.ranges.Growth.TheVariants.{Ask as AskFor, Refused, By}

@@ -1,8 +1,8 @@
 use Rattle.std.proofs.Common.{ap, ap₂, ◌∙◌, arith, map}
 use Rattle.wasm_ast.specs.declared.instructions.Instr.TheVariants.{TableInit}
 use Rattle.wasm_reduction.specs.Combinators.{part, written}
-use Rattle.wasm_machine.specs.Moves.{without}
-use Rattle.wasm_machine.specs.Stores.{list_at, with_table}
+use Rattle.wasm_machine.specs.code.Moves.{without, with_table}
+use Rattle.wasm_machine.specs.Stores.{list_at}
 use Rattle.wasm_machine.specs.Values.{reference}
 use Rattle.wasm_machine.proofs.CellLemmas.{map-part, map-written}
 use Rattle.wasm_machine.proofs.AccessLaws.{came-acts}
@@ -10,8 +10,8 @@ use Rattle.wasm_machine.proofs.MemoryLaws.{at-fact, at-came}
 use Rattle.wasm_machine.proofs.TableLaws.{table-acts, table-init-came}
 use Rattle.wasm_machine.proofs.tables.table_init.Goals as goal
 
-pub returns-in-Says-clause-acts : goal.returns-in-Says-clause-acts
-returns-in-Says-clause-acts g c = λ m. came-acts g.A.Algebra.holds g.A.Algebra.means g.A.Algebra.kind m (TableInit c.args.e c.args.x) c.args.a.now c.copy_at.new.a c.in_ok-n.ensures.keeps c.args.s.now c.requires.sane c.in_ok-n.field-0 c.in-Says.n _ c.in_ok-n.ensures.held c.in-Says.is
+pub returns-in-Stops-clause-acts : goal.returns-in-Stops-clause-acts
+returns-in-Stops-clause-acts g c = λ m. came-acts g.A.Algebra.holds g.A.Algebra.means g.A.Algebra.kind m (TableInit c.args.e c.args.x) c.args.a.now c.copy_at.new.a c.in_ok-n.ensures.keeps c.args.s.now c.requires.sane c.in_ok-n.field-0 c.in-Stops.n _ c.in_ok-n.ensures.held c.in-Stops.is
     (table-init-came g.A.Algebra.holds g.A.Algebra.means g.A.Algebra.kind m c.args.a.now c.args.s.now c.requires.sane (g.A.Algebra.means c.copy_at.new.a) c.in_ok-n.field-0 c.args.e c.args.x c.in-Some.target c.in-Some-elem_length.source c.in-Some.ensures c.in-Some-elem_length.ensures c.in_ok-n.ensures.says)
 
 pub returns-in-At-clause-acts : goal.returns-in-At-clause-acts

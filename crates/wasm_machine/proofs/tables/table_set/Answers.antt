@@ -2,8 +2,8 @@ use Rattle.std.proofs.Common.{◌<◌, sym, ap, ◌∙◌, subst, arith, length}
 use Rattle.std.specs.Prelude.{slice_set}
 use Rattle.std.proofs.lemmas.List.{map-set}
 use Rattle.wasm_ast.specs.declared.instructions.Instr.TheVariants.{TableSet}
-use Rattle.wasm_machine.specs.Moves.{without}
-use Rattle.wasm_machine.specs.Stores.{list_at, with_table}
+use Rattle.wasm_machine.specs.code.Moves.{without, with_table}
+use Rattle.wasm_machine.specs.Stores.{list_at}
 use Rattle.wasm_machine.specs.Values.{reference}
 use Rattle.wasm_machine.proofs.ActLaws.{stuck-acts}
 use Rattle.wasm_machine.proofs.AccessLaws.{came-acts}
@@ -11,8 +11,8 @@ use Rattle.wasm_machine.proofs.MemoryLaws.{at-fact, at-came}
 use Rattle.wasm_machine.proofs.TableLaws.{found-list, list-length, list-small, list-there, some-element, table-acts, set-came}
 use Rattle.wasm_machine.proofs.tables.table_set.Goals as goal
 
-pub returns-in-Says-clause-acts : goal.returns-in-Says-clause-acts
-returns-in-Says-clause-acts g c = λ m. came-acts g.A.Algebra.holds g.A.Algebra.means g.A.Algebra.kind m (TableSet c.args.x) c.args.a.now c.index_at.new.a c.in_ok-n.ensures.keeps c.args.s.now c.requires.ready.sane c.in_ok-n.field-0 c.in-Says.n _ c.in_ok-n.ensures.held c.in-Says.is
+pub returns-in-Stops-clause-acts : goal.returns-in-Stops-clause-acts
+returns-in-Stops-clause-acts g c = λ m. came-acts g.A.Algebra.holds g.A.Algebra.means g.A.Algebra.kind m (TableSet c.args.x) c.args.a.now c.index_at.new.a c.in_ok-n.ensures.keeps c.args.s.now c.requires.ready.sane c.in_ok-n.field-0 c.in-Stops.n _ c.in_ok-n.ensures.held c.in-Stops.is
     (set-came g.A.Algebra.holds g.A.Algebra.means g.A.Algebra.kind m c.args.a.now c.args.s.now c.requires.ready.sane (g.A.Algebra.means c.index_at.new.a) c.in_ok-n.field-0 c.args.x c.in-Some.size c.in-Some-reference.r c.in-Some.ensures c.in-Some-reference.ensures.found c.in_ok-n.ensures.says)
 
 pub returns-in-At-clause-acts : goal.returns-in-At-clause-acts

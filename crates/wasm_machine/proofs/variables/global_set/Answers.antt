@@ -1,7 +1,7 @@
 use Rattle.std.proofs.Common.{sym, ap, ◌∙◌, arith, subst}
 use Rattle.std.specs.Prelude.{◌<◌, length}
 use Rattle.std.proofs.lemmas.Option.{slice_get_within}
-use Rattle.wasm_machine.specs.Moves.{own}
+use Rattle.wasm_machine.specs.States.{own}
 use Rattle.wasm_machine.proofs.NumericLaws.{own-within}
 use Rattle.wasm_machine.proofs.VariableLaws.{set-lacks-global, global-lacks-value, global-set-goes}
 use Rattle.wasm_machine.proofs.variables.global_set.Goals as goal

@@ -1,6 +1,6 @@
 use Rattle.std.proofs.Common.{sym, ap, ◌∙◌, arith}
 use Rattle.std.proofs.lemmas.Option.{slice_get_within}
-use Rattle.wasm_machine.specs.Moves.{own}
+use Rattle.wasm_machine.specs.States.{own}
 use Rattle.wasm_machine.proofs.NumericLaws.{own-within}
 use Rattle.wasm_machine.proofs.VariableLaws.{set-lacks-local, set-lacks-value, set-goes, local-within}
 use Rattle.wasm_machine.proofs.variables.local_set.Goals as goal

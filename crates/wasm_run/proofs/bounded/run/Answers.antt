@@ -5,7 +5,7 @@ use Rattle.std.proofs.lemmas.List.Elements.{recursion_from_All}
 use Rattle.wasm_check.specs.Contexts.{imported_memories}
 use Rattle.wasm_image.specs.Sizes.{most_pages}
 use Rattle.wasm_start.specs.Starts.{stop_of}
-use Rattle.wasm_run.specs.Places.{config_at}
+use Rattle.wasm_run.specs.code.Places.{config_at}
 use Rattle.wasm_run.proofs.ReachedLemmas.{own_are_small, begins_at, ends_at_once, never_begins_stuck}
 use Rattle.wasm_run.proofs.bounded.run.Goals as goal
 
@@ -35,7 +35,7 @@ go-requires-clause-asked c = record {
   can = c.requires;
   valid = c.module.ensures.valid;
   has_numbers = rw c.module.ensures.module at c.module_has_numbers.ensures;
-  fitting = c.arguments_fit.ensures;
+  arguments_fit = c.arguments_fit.ensures;
   goes = λ input n trace. c.runs_are_never_stuck.ensures c.args.image.now c.args.entry c.args.args.now (taken input) by_value c.args.steps n (record { shape = c.module.ensures.shape; valid = c.module.ensures.valid; ready = c.requires.ready }) (record { types = c.requires.fit; named = c.requires.refer }) trace;
 }
 

@@ -1,5 +1,5 @@
 use Rattle.std.proofs.Common.{◌≡◌, ◌++◌, replicate}
-use Rattle.wasm_run.specs.Pages.{fresh}
+use Rattle.wasm_run.specs.code.Pages.{fresh}
 use Rattle.wasm_run.proofs.bytes.add_pages.Given as goal
 
 abbrev pub invariant-loop : goal.invariant-loop

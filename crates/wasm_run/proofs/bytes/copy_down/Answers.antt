@@ -1,6 +1,6 @@
 use Rattle.std.proofs.Common.{◌∙◌, ◌+◌, ◌-◌, ◌≡◌, subst, arith}
 use Rattle.wasm_reduction.specs.Combinators.{part}
-use Rattle.wasm_run.specs.Pages.{Writes, cells_of}
+use Rattle.wasm_run.specs.code.Pages.{Writes, cells_of}
 use Rattle.wasm_run.proofs.PageLemmas.{copied-down}
 use Rattle.wasm_run.proofs.bytes.copy_down.Goals as goal
 

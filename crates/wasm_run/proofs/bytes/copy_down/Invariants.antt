@@ -1,6 +1,6 @@
 use Rattle.std.proofs.Common.{◌≡◌, ◌≤◌, ◌+◌, ◌-◌, length}
 use Rattle.wasm_reduction.specs.Combinators.{part}
-use Rattle.wasm_run.specs.Pages.{Writes, cells_of}
+use Rattle.wasm_run.specs.code.Pages.{Writes, cells_of}
 use Rattle.wasm_run.proofs.bytes.copy_down.Given as goal
 
 abbrev pub invariant-loop-left : goal.invariant-loop-left

@@ -1,6 +1,6 @@
 use Rattle.std.proofs.Common.{⊎_elim, inl, inr, ◌∙◌, ◌+◌, ap, sym, subst, arith}
 use Rattle.std.proofs.lemmas.List.{length-set}
-use Rattle.wasm_run.specs.Pages.{AreHeld}
+use Rattle.wasm_run.specs.code.Pages.{AreHeld}
 use Rattle.wasm_run.proofs.PageLemmas.{held-in, page-filled}
 use Rattle.wasm_run.proofs.bytes.fill.Goals as goal
 

@@ -1,5 +1,5 @@
 use Rattle.std.proofs.Common.{◌≡◌, ◌≤◌, ◌<◌, ◌*◌, ◌∙◌, ◌+◌, ◌-◌, ◌%◌, ap, take, drop, arith, length}
-use Rattle.wasm_run.specs.Pages.{cells_of}
+use Rattle.wasm_run.specs.code.Pages.{cells_of}
 use Rattle.wasm_reduction.specs.Combinators.{part}
 use Rattle.wasm_reduction.specs.Memories.{page_bytes}
 use Rattle.wasm_run.proofs.PageLemmas.{page-read, put-long, read_on, mid-long, long-read}

@@ -1,5 +1,5 @@
 use Rattle.std.proofs.Common.{◌≡◌, ◌≤◌, ◌-◌, length, take, drop}
-use Rattle.wasm_run.specs.Pages.{cells_of}
+use Rattle.wasm_run.specs.code.Pages.{cells_of}
 use Rattle.wasm_run.proofs.bytes.read.Given as goal
 
 abbrev pub invariant-loop-done : goal.invariant-loop-done

@@ -1,6 +1,6 @@
 use Rattle.std.proofs.Common.{◌∙◌, ◌+◌, ◌-◌, ap, sym, subst, arith, length, take, drop}
 use Rattle.std.proofs.lemmas.List.{length-set}
-use Rattle.wasm_run.specs.Pages.{AreHeld}
+use Rattle.wasm_run.specs.code.Pages.{AreHeld}
 use Rattle.wasm_run.proofs.PageLemmas.{held-in, page-written, cut_is}
 use Rattle.wasm_run.proofs.bytes.write.Goals as goal
 

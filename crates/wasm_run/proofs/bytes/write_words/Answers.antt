@@ -1,6 +1,6 @@
 use Rattle.std.proofs.Common.{◌∙◌, ◌+◌, ◌∷◌, [], ap, sym, subst, arith, length, take, get_or}
 use Rattle.std.proofs.lemmas.List.{length-set, drop_more}
-use Rattle.wasm_run.specs.Pages.{AreHeld}
+use Rattle.wasm_run.specs.code.Pages.{AreHeld}
 use Rattle.wasm_run.proofs.PageLemmas.{held-in, page-written, place_within}
 use Rattle.wasm_run.proofs.bytes.write_words.Goals as goal
 

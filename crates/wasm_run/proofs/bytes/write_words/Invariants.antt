@@ -1,5 +1,5 @@
 use Rattle.std.proofs.Common.{◌≡◌, length, take}
-use Rattle.wasm_run.specs.Pages.{Writes}
+use Rattle.wasm_run.specs.code.Pages.{Writes}
 use Rattle.wasm_run.proofs.bytes.write_words.Given as goal
 
 abbrev pub invariant-loop-i : goal.invariant-loop-i

@@ -1,7 +1,7 @@
 use Rattle.wasm_machine.specs.Values.{question}
 use Rattle.wasm_run.proofs.PlaceLemmas.{settled_here}
 use Rattle.wasm_run.proofs.TurnLemmas.{asking_more, asking_less, order_after}
-use Rattle.wasm_run.specs.Places.{config_at, told_at}
+use Rattle.wasm_run.specs.code.Places.{config_at, told_at}
 use Rattle.wasm_run.proofs.turns.settle.Goals as goal
 
 pub asking-smaller : goal.asking-smaller

@@ -1,5 +1,5 @@
 use Rattle.wasm_reduction.proofs.Endings.{left}
-use Rattle.wasm_run.specs.Places.{config_at}
+use Rattle.wasm_run.specs.code.Places.{config_at}
 use Rattle.wasm_run.proofs.PlaceLemmas.{Asking}
 use Rattle.wasm_run.proofs.turns.settle.Given as goal
 

@@ -22,7 +22,6 @@ store-tells c = record {
   held = on_ok c.result c.ensures.exact (λ is. subst (All (λ b. b < 2 ^ 64)) (sym is)
       (All-written (λ b. b < 2 ^ 64) c.args.at (stored numbers c.args.op c.args.w) c.args.self.now (lowest_bytes-held (store_bytes c.args.op) c.args.w) c.requires.cells_held));
   means = on_ok c.result c.ensures.exact (λ is. map-id c.new.self.now ∙ is ∙ ap (written c.args.at (stored numbers c.args.op c.args.w)) (sym (map-id c.args.self.now)));
-  refused = c.ensures.refused;
   keeps = λ w held. (held, refl);
 }
   where

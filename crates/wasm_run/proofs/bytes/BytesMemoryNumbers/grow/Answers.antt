@@ -1,7 +1,7 @@
 use Rattle.std.proofs.Common.{◌∙◌, ◌++◌, ◌*◌, ℕ, ap, sym, subst, arith, length, length-append, replicate}
 use Rattle.std.proofs.lemmas.List.{length-replicate}
 use Rattle.wasm_reduction.specs.Memories.{page_bytes}
-use Rattle.wasm_run.specs.Pages.{AreWhole, cells_of, fresh}
+use Rattle.wasm_run.specs.code.Pages.{AreWhole, cells_of, fresh}
 use Rattle.wasm_run.proofs.PageLemmas.{cells-added, whole-added}
 use Rattle.wasm_run.proofs.bytes.BytesMemoryNumbers.grow.Goals as goal
 

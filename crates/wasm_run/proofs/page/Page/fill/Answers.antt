@@ -1,6 +1,6 @@
 use Rattle.std.proofs.Common.{◌≡◌, ◌⊎◌, ◌∙◌, sym, subst, true, replicate}
 use Rattle.wasm_reduction.specs.Combinators.{written}
-use Rattle.wasm_run.specs.Pages.{Page}
+use Rattle.wasm_run.specs.code.Pages.{Page}
 use Rattle.wasm_run.proofs.ZeroLemmas.{fill-fresh, page-without, none_of}
 use Rattle.wasm_run.proofs.page.Page.fill.Goals as goal
 

@@ -3,7 +3,7 @@ use Rattle.std.proofs.lemmas.List.{take_rest, with_items_is}
 use borrow.Rule.Slice.PartMut.{post_of}
 use Rattle.wasm_rules.specs.Words.{numbers}
 use Rattle.wasm_rules.specs.Accesses.{stored, store_bytes}
-use Rattle.wasm_run.specs.Pages.{page_of}
+use Rattle.wasm_run.specs.code.Pages.{page_of}
 use Rattle.wasm_run.proofs.AccessLemmas.{store_most, stored_long}
 use Rattle.wasm_run.proofs.PageLemmas.{stored-page}
 use Rattle.wasm_run.proofs.page.Page.store.Goals as goal
