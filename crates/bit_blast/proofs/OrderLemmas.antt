@@ -4,9 +4,9 @@ use Rattle.std.specs.List.{list_any}
 use Rattle.std.proofs.lemmas.List.Elements.{All-head, All-tail, All-cons}
 use Rattle.wasm_rules.specs.Words.{bits_where}
 use Rattle.int_ops.specs.Operators.{operand_bits}
-use Rattle.bv_terms.specs.Terms.{Term, Number, Symbol, Unary, Binary, Choose, Byte, Join, Bytes, NoBytes, Then, is_same, is_number, width_of, HasWidth, AreBytes}
+use Rattle.bv_terms.specs.Terms.{Term, Number, Symbol, Unary, Binary, Choose, Byte, Join, Bytes, NoBytes, Then, is_same, is_number, width_of, HasWidth, AreBytes, HasSymbols, HaveSymbols}
 use Rattle.bv_terms.proofs.SameLemmas.{is_same-itself}
-use Rattle.bit_blast.specs.Formulas.{Condition, once_after, with_terms, with_bytes, with_conditions, with_first, terms_in_order, HasSymbols, HaveSymbols}
+use Rattle.bit_blast.specs.Formulas.{Condition, once_after, with_terms, with_bytes, with_conditions, with_first, terms_in_order}
 use Rattle.bit_blast.specs.Meanings.{IsProper, CanBeLeast, AreProper}
 
 -- a term is there

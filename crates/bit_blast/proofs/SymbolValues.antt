@@ -5,8 +5,7 @@ use Rattle.std.proofs.lemmas.Nat.{pow_pos, mod_below}
 use Rattle.int_ops.specs.Operators.{unary, total}
 use Rattle.int_ops.specs.Bytes.{byte_of, joined}
 use Rattle.wasm_rules.specs.Words.{bits_where, chosen, taken}
-use Rattle.bv_terms.specs.Terms.{Term, Number, Symbol, Unary, Binary, Choose, Byte, Join, Bytes, NoBytes, Then, value_of, values_of}
-use Rattle.bit_blast.specs.Formulas.{HasSymbols, HaveSymbols}
+use Rattle.bv_terms.specs.Terms.{Term, Number, Symbol, Unary, Binary, Choose, Byte, Join, Bytes, NoBytes, Then, value_of, values_of, HasSymbols, HaveSymbols}
 use Rattle.bit_blast.specs.Inputs.{IsInput, numbers_for}
 
 abbrev Alike : List Bool → List ℕ → List ℕ → Type 0

@@ -1,6 +1,6 @@
 -- The formula of conditions: the terms of the conditions one after another, each once and after its operands, by gates; and
 -- then the conditions themselves.
-use Rattle.std.specs.Prelude.{◌≡◌, slice_get, ℕ, zero, suc, ◌+◌, ◌-◌, ◌*◌, Bool, true, false, if◌then◌else◌, List, [], ◌∷◌, ◌++◌, length, map, flat_map, drop, reverse, Option, Some, None}
+use Rattle.std.specs.Prelude.{ℕ, zero, suc, ◌+◌, ◌-◌, ◌*◌, Bool, true, false, if◌then◌else◌, List, [], ◌∷◌, ◌++◌, length, map, flat_map, drop, reverse, Option, Some, None}
 use Rattle.std.specs.List.{list_any}
 use Rattle.int_ops.specs.Operators.{operand_bits}
 use Rattle.wasm_rules.specs.Words.{bits_where}
@@ -163,18 +163,3 @@ abbrev pub formula : List Condition → List Bool → Option Term → Cnf
 formula conditions draws first = formula_of conditions (built conditions draws first)
 
 -- ---- what is asked of the terms
-
--- the symbols of a term are among those drawn, with their widths
-abbrev mutual
-  pub HasSymbols : List Bool → Term → Type 0
-  HasSymbols draws (Number n) = Unit {0}
-  HasSymbols draws (Symbol k wide) = slice_get draws k ≡ Some wide
-  HasSymbols draws (Unary op a) = HasSymbols draws a
-  HasSymbols draws (Binary op a b) = HasSymbols draws a × HasSymbols draws b
-  HasSymbols draws (Choose wide c a b) = HasSymbols draws c × HasSymbols draws a × HasSymbols draws b
-  HasSymbols draws (Byte a i) = HasSymbols draws a
-  HasSymbols draws (Join wide bytes) = HaveSymbols draws bytes
-
-  pub HaveSymbols : List Bool → Bytes → Type 0
-  HaveSymbols draws NoBytes = Unit {0}
-  HaveSymbols draws (Then t rest) = HasSymbols draws t × HaveSymbols draws rest

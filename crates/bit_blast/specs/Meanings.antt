@@ -2,12 +2,12 @@
 -- value.
 use Rattle.std.specs.Prelude.{◌≡◌, ◌≢◌, ℕ, ◌+◌, ◌*◌, Bool, true, false, not, ◌&&◌, ◌||◌, if◌then◌else◌, List, [], ◌∷◌, length, All}
 use Rattle.wasm_rules.specs.Words.{bits_where}
-use Rattle.bv_terms.specs.Terms.{Term, is_number, width_of, HasWidth, value_of}
+use Rattle.bv_terms.specs.Terms.{Term, is_number, width_of, HasWidth, value_of, HasSymbols}
 use Rattle.refute_check.specs.Clauses.{Assignment, variable_of, sign_of}
 use Rattle.bit_blast.specs.declared.gates.Gate.{Gate}
 use Rattle.bit_blast.specs.declared.gates.Gate.TheVariants.{And, Xor, Mux, Maj, Same}
 use Rattle.bit_blast.specs.Gates.{Wires}
-use Rattle.bit_blast.specs.Formulas.{Condition, HasSymbols, falling_wires, built}
+use Rattle.bit_blast.specs.Formulas.{Condition, falling_wires, built}
 use Rattle.std.specs.Prelude.{Option, Some, None, IsTrue}
 
 -- ---- wires

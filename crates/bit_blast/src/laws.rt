@@ -1,9 +1,9 @@
 // Laws of circuits and formulas.
 ghost use Rattle.std.specs.Prelude.{◌≡◌, ◌↔◌, ◌≤◌, ℕ, Bool, List, length, Option, All};
-ghost use Rattle.bv_terms.specs.Terms.{Term as OneTerm, value_of};
+ghost use Rattle.bv_terms.specs.Terms.{Term as OneTerm, value_of, HasSymbols};
 ghost use Rattle.refute_check.specs.Clauses.{Assignment, MeetsAll};
 ghost use Rattle.refute_check.specs.Orders.{Names, NamesAll};
-ghost use Rattle.bit_blast.specs.Formulas.{Condition, HasSymbols, formula};
+ghost use Rattle.bit_blast.specs.Formulas.{Condition, formula};
 ghost use Rattle.bit_blast.specs.Meanings.{AreProper, CanBeLeast, Computes, IsAnswered, input_of};
 ghost use Rattle.bit_blast.specs.Inputs.{IsInput, numbers_for};
 ghost use Rattle.bit_blast.specs.BlockLaws.{AddLaw, LessLaw, NoneLaw, NegateLaw, CountLaw, DivideLaw, MultiplyLaw, ChooseLaw, UnaryLaw, BinaryLaw};

@@ -9,6 +9,7 @@ mod blocks;
 mod formulas;
 mod gates;
 pub mod laws;
+pub mod log_laws;
 mod netlist;
 mod operators;
 mod order;

@@ -1,6 +1,6 @@
 -- Where the making rules fit and where they don't, for the words of a graph.
 use Rattle.std.proofs.Common.{◌≡◌, ℕ, zero, suc, ◌+◌, ◌-◌, ◌<◌, ◌≤◌, Bool, true, false, List, [], ◌∷◌, length, map, take, All, refl, ap, sym, ◌∙◌, subst, arith, Some, None, ⊎_elim}
-use Rattle.std.specs.Prelude.{◌⊎◌, not, IsTrue, slice_get, unwrap_or, option_map}
+use Rattle.std.specs.Prelude.{not, IsTrue, slice_get, unwrap_or, option_map}
 use Rattle.std.proofs.lemmas.Bool.{false≢true, cases_eq}
 use Rattle.std.proofs.lemmas.List.Elements.{All-nil, All-head, All-tail, All-cons, All-weaker}
 use Rattle.std.proofs.lemmas.List.{take_all}
@@ -11,7 +11,7 @@ use Rattle.bv_terms.specs.declared.words.Word.TheVariants.{Num, Term as Numbered
 use Rattle.bv_terms.specs.declared.words.Form.{Form}
 use Rattle.bv_terms.specs.declared.words.Form.TheVariants.{Symbol as SymbolForm, Un, Bin, Choose as ChooseForm, Byte as ByteForm, Join as JoinForm}
 use Rattle.bv_terms.specs.Terms.{Term, Number, Unary, Binary, Choose, Byte, Join, Bytes, Then, bytes_from, count_of, is_number, number_of, width_of, HasWidth, AreBytes, are_same}
-use Rattle.bv_terms.specs.Making.{of_numbers, numbers_of, chosen_side, byte_of_join, byte_at, join_of_bytes, whole, bytes_of_term}
+use Rattle.bv_terms.specs.Making.{of_numbers, numbers_of, byte_of_join, byte_at, join_of_bytes, whole, bytes_of_term}
 use Rattle.bv_terms.specs.Graphs.{word_among, form_among, terms_of, IsBelow, IsGraph}
 use Rattle.bv_terms.proofs.SameLemmas.{are_same-are, are_same-themselves}
 use Rattle.bv_terms.proofs.ListLemmas.{get-below}
@@ -67,12 +67,6 @@ choose-third-none wide n m _ e = refl
 pub byte-none : (a : Term) (i : ℕ) → number_of a ≡ None → of_numbers (Byte a i) ≡ None
 byte-none (Number n) i e = number-none n e
 byte-none _ i e = refl
-
--- ---- no choice by a number
-
-pub side-none : (wide : Bool) (c a b : Term) → number_of c ≡ None → chosen_side (Choose wide c a b) ≡ None
-side-none wide (Number n) a b e = number-none n e
-side-none wide _ a b e = refl
 
 -- ---- no byte of a join
 

@@ -1,6 +1,6 @@
 -- The terms of a graph.
 use Rattle.std.proofs.Common.{◌≡◌, ℕ, zero, suc, ◌+◌, ◌-◌, ◌^◌, ◌<◌, ◌≤◌, Bool, true, false, cond, List, [], ◌∷◌, ◌++◌, length, map, All, refl, ap, sym, ◌∙◌, subst, arith, Some, ⊎_elim}
-use Rattle.std.specs.Prelude.{◌⊎◌, ◌||◌, not, IsTrue, slice_get}
+use Rattle.std.specs.Prelude.{◌||◌, not, IsTrue, slice_get}
 use Rattle.std.specs.List.{list_any}
 use Rattle.std.proofs.lemmas.Bool.{false≢true}
 use Rattle.std.proofs.lemmas.List.{append_assoc, append-nil, length-append, get_or_append_left}

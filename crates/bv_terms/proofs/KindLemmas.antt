@@ -1,10 +1,9 @@
 -- The operations of the kind of terms: their widths.
 use Rattle.std.proofs.Common.{◌≡◌, ℕ, Bool, List, [], ◌∷◌, length, map, All, refl, ap, sym, subst, ⊎_elim, inl, inr, arith}
-use Rattle.std.specs.Prelude.{◌⊎◌}
 use Rattle.std.proofs.lemmas.List.Elements.{All-head, All-tail}
 use Rattle.int_ops.specs.Operators.{result_bits}
 use Rattle.wasm_rules.specs.Words.{bits_where, CanJoin, HasSome, Gives}
-use Rattle.bv_terms.specs.Terms.{Term, Symbol, Unary, Binary, Choose, Byte, Join, bytes_from, count_of, value_of, values_of, HasWidth, AreBytes, HasBits}
+use Rattle.bv_terms.specs.Terms.{Term, Unary, Binary, Choose, Byte, Join, bytes_from, count_of, value_of, values_of, HasWidth, AreBytes, HasBits}
 use Rattle.bv_terms.specs.Making.{made, terms}
 use Rattle.bv_terms.proofs.WidthLemmas.{value-below}
 use Rattle.bv_terms.proofs.RuleLemmas.{made-keeps}
@@ -44,5 +43,4 @@ terms-give = record {
   choose = λ wide c a b s h k. made-has (Choose wide c a b) (bits_where wide) (refl, some c s, h.0, k.0);
   byte = λ a i place s. made-has (Byte a i) 8 (refl, place, some a s);
   join = λ wide ts count each. made-has (Join wide (bytes_from ts)) (bits_where wide) (join-width wide ts count (widths ts each));
-  symbol = λ k wide. has (Symbol k wide) (bits_where wide) refl;
 }

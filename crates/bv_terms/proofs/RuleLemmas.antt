@@ -12,18 +12,11 @@ use Rattle.int_ops.proofs.WidthLemmas.{unary-below, binary-below}
 use Rattle.int_ops.proofs.BytesLemmas.{joined-bytes_of}
 use Rattle.wasm_rules.specs.Words.{bits_where, chosen, CanJoin}
 use Rattle.wasm_rules.proofs.NumbersLemmas.{joined-fits}
-use Rattle.bv_terms.specs.Terms.{Term, Number, Symbol, Unary, Binary, Choose, Byte, Join, Bytes, NoBytes, Then, value_of, values_of, width_of, HasWidth, AreBytes, are_same}
-use Rattle.bv_terms.specs.Making.{Rule, IsSound, Keeps, of_numbers, numbers_of, chosen_side, byte_of_join, byte_at, join_of_bytes, whole, bytes_of_term, bytes_where, rules, first_of, first_made, made}
+use Rattle.bv_terms.specs.Terms.{Term, Number, Symbol, Unary, Binary, Choose, Byte, Join, Bytes, NoBytes, Then, value_of, values_of, width_of, HasWidth, AreBytes, number_of, is_same, are_same}
+use Rattle.bv_terms.specs.Making.{Rule, IsSound, Keeps, of_numbers, numbers_of, chosen_side, chosen_by, byte_of_join, byte_at, join_of_bytes, whole, bytes_of_term, bytes_where, rules, first_of, first_made, made}
 use Rattle.bv_terms.proofs.WidthLemmas.{at_width, either, value-below, values-below, length-values_of}
-use Rattle.bv_terms.proofs.SameLemmas.{are_same-are, same_number}
-
--- what a rule that fits gave
-given : (P : Term → Type 0) (a s : Term) → Some a ≡ Some s → P a → P s
-given P a s e p = let is : a ≡ s = cc in subst P is p
-
--- a rule that doesn't fit gave nothing
-nothing : (P : Type 0) (s : Term) → None ≡ Some s → P
-nothing P s e = cc
+use Rattle.bv_terms.proofs.SameLemmas.{is_same-is, are_same-are, same_number}
+use Rattle.bv_terms.proofs.OperationRules.{given, nothing, adds_nothing-sound, changes_nothing-sound, leaves_nothing-sound, of_comparison-sound, of_same-sound}
 
 -- ---- numbers
 
@@ -73,6 +66,28 @@ chosen_side-sound (Choose wide (Number c) a b) s bits e h =
     (term_either (Keeps bits (Choose wide (Number c) a b)) (c == 0) b a
     (λ test. (subst (λ n. HasWidth n b) (sym h.0) h.3, λ input. rw test))
     (λ test. (subst (λ n. HasWidth n a) (sym h.0) h.2, λ input. rw test)))
+chosen_side-sound (Choose wide c a b) s bits e h = go (is_same a b) refl (one (number_of c) no_number e)
+  where
+    -- no number: so it is one term twice
+    no_number : number_of c ≡ None
+    no_number = refl
+
+    one : (o : Option ℕ) → o ≡ None → chosen_by o a b ≡ Some s → cond (is_same a b) (Some a) None ≡ Some s
+    one None is e = e
+    one (Some n) is e = let wrong : ⊥ = cc in absurd wrong
+
+    either_way : (x : Bool) (n : ℕ) → cond x n n ≡ n
+    either_way true n = refl
+    either_way false n = refl
+
+    go : (x : Bool) → is_same a b ≡ x → cond x (Some a) None ≡ Some s → Keeps bits (Choose wide c a b) s
+    go true test e =
+        let same : a ≡ b = is_same-is a b test in
+        given (Keeps bits (Choose wide c a b)) a s e (
+          subst (λ n. HasWidth n a) (sym h.0) h.2,
+          λ input. sym (ap (λ t. cond (value_of input c == 0) (value_of input t) (value_of input a)) (sym same) ∙ either_way (value_of input c == 0) (value_of input a)),
+        )
+    go false test e = nothing (Keeps bits (Choose wide c a b) s) s e
 chosen_side-sound _ s bits e h = nothing _ s e
 
 -- ---- bytes of joins
@@ -162,7 +177,10 @@ join_of_bytes-sound _ s bits e h = nothing _ s e
 -- ---- all rules
 
 pub rules-sound : AllByRecursion IsSound rules
-rules-sound = (of_numbers-sound, (chosen_side-sound, (byte_of_join-sound, (join_of_bytes-sound, tt))))
+rules-sound = (
+  of_numbers-sound,
+  (chosen_side-sound, (byte_of_join-sound, (join_of_bytes-sound, (adds_nothing-sound, (changes_nothing-sound, (leaves_nothing-sound, (of_comparison-sound, (of_same-sound, tt)))))))),
+)
 
 first_of-sound : (all : List Rule) → AllByRecursion IsSound all → IsSound (first_of all)
 first_of-sound [] each t s bits e h = nothing (Keeps bits t s) s e

@@ -1,6 +1,6 @@
 -- The value of a term, from those of its operands.
 use Rattle.std.proofs.Common.{◌≡◌, ℕ, ◌+◌, ◌-◌, ◌^◌, ◌<◌, ◌≤◌, Bool, List, [], ◌∷◌, ◌++◌, length, map, take, All, refl, ap, ap₂, sym, ◌∙◌, subst, arith, ⊎_elim, add-one}
-use Rattle.std.specs.Prelude.{◌⊎◌, slice_index_or, slice_set, Result, Ok, Err}
+use Rattle.std.specs.Prelude.{slice_index_or, slice_set, Result, Ok, Err}
 use Rattle.std.proofs.lemmas.List.{take_more, take_all, length-map, length-set, get_or-map, get_or_default}
 use Rattle.std.proofs.lemmas.Bool.{cases_eq}
 use Rattle.std.proofs.lemmas.List.Elements.{All-head, All-tail}

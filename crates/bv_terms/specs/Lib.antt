@@ -3,3 +3,4 @@ pub mod Making
 pub mod Graphs
 pub mod Index
 pub mod Walks
+pub mod Operations

@@ -1,6 +1,6 @@
 -- Terms over symbols: trees whose leaves are numbers and symbols and whose nodes are the operations of words, and their
 -- value at an input. (Execution, Numerics; SMT-LIB's theory of bit-vectors, in which division is defined everywhere.)
-use Rattle.std.specs.Prelude.{◌≡◌, ℕ, ◌+◌, ◌^◌, ◌<◌, ◌⊎◌, Bool, true, false, ◌==◌, ◌&&◌, not, IsTrue, List, [], ◌∷◌, Option, Some, None}
+use Rattle.std.specs.Prelude.{◌≡◌, ℕ, ◌+◌, ◌^◌, ◌<◌, ◌⊎◌, Bool, true, false, ◌==◌, ◌&&◌, not, IsTrue, List, [], ◌∷◌, slice_get, Option, Some, None}
 use Rattle.int_ops.specs.Operators.{is_unary, is_binary, operand_bits, result_bits, unary, total}
 use Rattle.int_ops.specs.Bytes.{byte_of, joined}
 use Rattle.wasm_rules.specs.Words.{CanJoin, bits_where, chosen, taken}
@@ -95,6 +95,23 @@ abbrev mutual
 -- A term has a width, and its value at every input is below that power of 2. The second follows from the first.
 abbrev pub HasBits : ℕ → Term → Type 0
 HasBits bits t = HasWidth bits t × ((input : List ℕ) → value_of input t < 2 ^ bits)
+
+-- ---- symbols
+
+-- The symbols of a term are among these, which are given by whether they are wide, with their widths.
+abbrev mutual
+  pub HasSymbols : List Bool → Term → Type 0
+  HasSymbols draws (Number n) = Unit {0}
+  HasSymbols draws (Symbol k wide) = slice_get draws k ≡ Some wide
+  HasSymbols draws (Unary op a) = HasSymbols draws a
+  HasSymbols draws (Binary op a b) = HasSymbols draws a × HasSymbols draws b
+  HasSymbols draws (Choose wide c a b) = HasSymbols draws c × HasSymbols draws a × HasSymbols draws b
+  HasSymbols draws (Byte a i) = HasSymbols draws a
+  HasSymbols draws (Join wide bytes) = HaveSymbols draws bytes
+
+  pub HaveSymbols : List Bool → Bytes → Type 0
+  HaveSymbols draws NoBytes = Unit {0}
+  HaveSymbols draws (Then t rest) = HasSymbols draws t × HaveSymbols draws rest
 
 -- ---- equality
 

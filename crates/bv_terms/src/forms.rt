@@ -1,96 +1,37 @@
-// The forms of a graph, in one vector, with an index by which a form is found.
-ghost use Rattle.std.specs.Prelude.{◌≡◌, ◌≢◌, ℕ, ◌<◌, ◌++◌, ◌∷◌, [], Some, length, slice_get, IfOk, OnOk, OnErr, IfSome, IfNone};
-ghost use Rattle.bv_terms.specs.Index.{mixed, word_code, words_code, wide_code, form_code};
+// The forms of a graph, in segments that graphs share.
+ghost use Rattle.std.specs.Prelude.{◌≡◌, ◌≢◌, ℕ, ◌<◌, ◌≤◌, ◌^◌, ◌++◌, ◌∷◌, [], Some, length, slice_get, map, IfOk, IfErr, OnOk, OnErr, IfSome, IfNone};
+ghost use Rattle.std.specs.Arc.{arc_value};
+ghost use Rattle.bv_terms.specs.Index.{form_of, all_forms};
 
-use crate::words::{Form, Word};
+use crate::key::{Key, key_of};
+use crate::merging::absorbed;
+use crate::segment::Segment;
+use crate::words::Form;
 use std::alloc::{AllocError, Global};
-use std::collections::HashMap;
 use std::marker::Model;
-use wasm_ast::equals::Same;
+use std::sync::Arc;
 
-/// A form, with the place of the latest one before it that has its code.
-#[derive(Drop)]
-pub struct Node {
-    pub form: Form,
-    pub earlier: Option<u64>,
-}
-
-impl Clone for Node {
-    ghost is_clone = { λ x y. y ≡ x };
-
-    fn clone(&self) -> Result<Node, AllocError> {
-        let form = self.form.clone()?;
-        Ok(Node {
-            form,
-            earlier: self.earlier,
-        })
-    }
-}
-
-/// Forms in order, each of which is found by its code.
+/// Forms in order: those of full segments, which other graphs may share, and those of one that is its own. There are at most
+/// 2^60.
 #[derive(Drop)]
 pub struct Forms {
-    nodes: Vec<Node>,
-    heads: HashMap<u64, u64>,
+    full: Vec<Arc<Segment>>,
+    own: Segment,
+    before: u64,
+    alloc: Global,
 }
 
 impl Model for Forms {
-    ghost use Rattle.std.specs.Prelude.{List as Items, map};
+    ghost use Rattle.std.specs.Prelude.{◌≡◌, ◌≤◌, ◌^◌, [], List as Items, map, length};
+    ghost use Rattle.std.specs.Arc.{arc_value};
     ghost use Rattle.bv_terms.specs.declared.words.Form.{Form as OneForm};
-    ghost use Rattle.bv_terms.specs.Index.{IsLinked};
+    ghost use Rattle.bv_terms.specs.Index.{all_forms};
 
     ghost Value = { Items OneForm };
 
-    ghost view = { λ f. map (λ node. node.form) f.nodes.items };
+    ghost view = { λ f. all_forms (map (λ s. arc_value s) f.full.items) f.own };
 
-    ghost invariant = { λ f. IsLinked f.nodes.items f.heads };
-}
-
-fn mix(code: u64, n: u64) -> u64
-    ensures { result ≡ mixed code n }
-{
-    (code ^ n).wrapping_mul(0x9E37_79B9_7F4A_7C15)
-}
-
-fn code_of_word(code: u64, word: Word) -> u64
-    ensures { result ≡ word_code code word }
-{
-    match word {
-        Word::Num(n) => mix(mix(code, 0), n),
-        Word::Term(t) => mix(mix(code, 1), t),
-    }
-}
-
-fn code_of_words(code: u64, words: &[Word]) -> u64
-    ensures { result ≡ words_code code words.now }
-{
-    let mut all = code;
-    for word in words {
-        all = code_of_word(all, *word);
-    }
-    all
-}
-
-fn code_where(wide: bool) -> u64
-    ensures { result ≡ wide_code wide }
-{
-    if wide { 1 } else { 0 }
-}
-
-fn code_of(form: &Form) -> u64
-    ensures { result ≡ form_code form.now }
-{
-    match form {
-        Form::Symbol { number, wide } => mix(mix(0, code_where(*wide)), *number),
-        Form::Un { op, a } => code_of_word(mix(1, *op as u64), *a),
-        Form::Bin { op, a, b } => code_of_word(code_of_word(mix(2, *op as u64), *a), *b),
-        Form::Choose { wide, c, a, b } => {
-            let over = code_of_word(mix(3, code_where(*wide)), *c);
-            code_of_word(code_of_word(over, *a), *b)
-        }
-        Form::Byte { a, i } => code_of_word(mix(4, *i as u64), *a),
-        Form::Join { wide, bytes } => { code_of_words(mix(5, code_where(*wide)), bytes.as_slice()) }
-    }
+    ghost invariant = { λ f. (f.before ≡ length (all_forms (map (λ s. arc_value s) f.full.items) [])) × (length (all_forms (map (λ s. arc_value s) f.full.items) f.own) ≤ 2 ^ 60) };
 }
 
 impl Forms {
@@ -99,64 +40,156 @@ impl Forms {
         ensures { result ≡ [] }
     {
         Forms {
-            nodes: Vec::new(alloc),
-            heads: HashMap::new(alloc),
+            full: Vec::new(alloc),
+            own: Segment::new(alloc),
+            before: 0,
+            alloc,
         }
     }
 
     /// How many there are.
-    pub fn len(&self) -> usize
+    pub fn len(&self) -> u64
         ensures { result ≡ length self.now }
     {
-        self.nodes.len()
+        self.before + self.own.len() as u64
     }
 
     /// The form at a place.
-    pub fn get(&self, i: usize) -> &Form
+    pub fn get(&self, i: u64) -> &Form
         requires { i < length self.now }
         ensures { slice_get self.now i ≡ Some result.now }
     {
-        &self.nodes[i].form
+        if i >= self.before {
+            return self.own.get((i - self.before) as usize);
+        }
+        let mut rest = i;
+        for k in 0..self.full.len() {
+            let segment = &self.full[k];
+            let count = segment.len() as u64;
+            if rest < count {
+                return segment.get(rest as usize);
+            }
+            rest -= count;
+        }
+        unreachable!()
+    }
+
+    /// The key of a form.
+    pub fn key(&self, form: &Form) -> Result<Key, AllocError>
+        ensures { IfOk result (λ key. form_of key ≡ form.now) }
+    {
+        key_of(self.alloc, form)
     }
 
     /// The place of a form, where it is there.
-    pub fn find(&self, form: &Form) -> Option<u64>
-        ensures found { IfSome result (λ i. slice_get self.now i ≡ Some form.now) }
-        ensures absent { IfNone result ((i : ℕ) → slice_get self.now i ≢ Some form.now) }
+    pub fn find(&self, key: &Key) -> Option<u64>
+        ensures found { IfSome result (λ i. slice_get self.now i ≡ Some (form_of key.now)) }
+        ensures absent { IfNone result ((i : ℕ) → slice_get self.now i ≢ Some (form_of key.now)) }
     {
-        let mut place = self.heads.get(&code_of(form)).copied();
-        while let Some(i) = place {
-            let node = &self.nodes[i as usize];
-            if node.form.same(form) {
-                return Some(i);
+        let mut start = 0;
+        for k in 0..self.full.len() {
+            let segment = &self.full[k];
+            if let Some(i) = segment.find(key) {
+                return Some(start + i);
             }
-            place = node.earlier;
+            start += segment.len() as u64;
         }
-        None
+        match self.own.find(key) {
+            Some(i) => Some(start + i),
+            None => None,
+        }
     }
 
-    /// Puts a form at the end. Where memory is wanting, all is as it was.
-    pub fn push(&mut self, form: Form) -> Result<(), AllocError>
+    /// Puts a form that isn't there at the end. Where memory is wanting, all is as it was.
+    pub fn push(&mut self, form: Form, key: Key) -> Result<(), AllocError>
+        requires key { form_of key ≡ form }
+        requires absent { (i : ℕ) → slice_get self.old i ≢ Some form }
+        requires room { length self.old < 2 ^ 60 }
         ensures ok { OnOk result (self.new ≡ self.old ++ form ∷ []) }
         ensures err { OnErr result (self.new ≡ self.old) }
     {
-        let code = code_of(&form);
-        let place = self.nodes.len() as u64;
-        let earlier = self.heads.get(&code).copied();
-        self.nodes.push(Node { form, earlier })?;
-        if self.heads.insert(code, place).is_err() {
-            self.nodes.pop();
-            return Err(AllocError);
-        }
-        Ok(())
+        self.own.push(form, key)
     }
 
-    /// Equal forms.
-    pub fn copy(&self) -> Result<Forms, AllocError>
-        ensures { IfOk result (λ forms. forms ≡ self.now) }
+    /// Equal forms, in fewer segments where the last ones are small. It takes time and memory by the number of these.
+    pub fn merged(self) -> Forms
+        ensures { result ≡ self }
     {
-        let nodes = self.nodes.clone()?;
-        let heads = self.heads.clone()?;
-        Ok(Forms { nodes, heads })
+        let Forms {
+            full,
+            own,
+            before,
+            alloc,
+        } = self;
+        let mut full = full;
+        let count = before + own.len() as u64;
+        let last = absorbed(&mut full, own, alloc);
+        let before = count - last.len() as u64;
+        Forms {
+            full,
+            own: last,
+            before,
+            alloc,
+        }
+    }
+
+    /// Equal forms twice, which share their segments. Where memory is wanting, they come back.
+    pub fn share(self) -> Result<(Forms, Forms), Forms>
+        ensures first { IfOk result (λ both. both.0 ≡ self) }
+        ensures second { IfOk result (λ both. both.1 ≡ self) }
+        ensures back { IfErr result (λ forms. forms ≡ self) }
+    {
+        let Forms {
+            full,
+            own,
+            before,
+            alloc,
+        } = self;
+        let mut full = full;
+        let count = before + own.len() as u64;
+        match close(&mut full, own, alloc) {
+            Ok(()) => match full.clone() {
+                Ok(others) => Ok((closed(full, count, alloc), closed(others, count, alloc))),
+                Err(_) => Err(closed(full, count, alloc)),
+            },
+            Err(own) => Err(Forms {
+                full,
+                own,
+                before,
+                alloc,
+            }),
+        }
+    }
+}
+
+/// Forms whose own segment is empty.
+fn closed(full: Vec<Arc<Segment>>, before: u64, alloc: Global) -> Forms
+    requires count { before ≡ length (all_forms (map (λ s. arc_value s) full.items) []) }
+    requires most { before ≤ 2 ^ 60 }
+    ensures { result ≡ all_forms (map (λ s. arc_value s) full.items) [] }
+{
+    Forms {
+        full,
+        own: Segment::new(alloc),
+        before,
+        alloc,
+    }
+}
+
+/// Puts a segment behind the full ones. Where memory is wanting, it comes back.
+fn close(full: &mut Vec<Arc<Segment>>, own: Segment, alloc: Global) -> Result<(), Segment>
+    ensures ok { OnOk result (map (λ s. arc_value s) full.new.items ≡ map (λ s. arc_value s) full.old.items ++ own ∷ []) }
+    ensures back { IfErr result (λ segment. segment ≡ own) }
+    ensures kept { OnErr result (full.new.items ≡ full.old.items) }
+{
+    if full.reserve(1).is_err() {
+        return Err(own);
+    }
+    match Arc::new(alloc, own) {
+        Ok(segment) => {
+            let _pushed = full.push(segment);
+            Ok(())
+        }
+        Err(failed) => Err(failed.value),
     }
 }

@@ -82,7 +82,7 @@ impl Graph {
         ensures count { result ≡ length self.now.forms }
         ensures kept { IsGraph self.now.forms }
     {
-        self.forms.len() as u64
+        self.forms.len()
     }
 
     /// The form of a term of the graph, with its operands as words of the graph, which are numbers and terms before it.
@@ -93,7 +93,7 @@ impl Graph {
         ensures typed { HasWidth (width_of (form_term self.now result.now)) (form_term self.now result.now) }
         ensures operands { OperandsBelow t result.now }
     {
-        self.forms.get((t - FIRST) as usize)
+        self.forms.get(t - FIRST)
     }
 
     /// Two graphs equal to this one, with the same numbers. Where memory is wanting, it comes back.
@@ -102,16 +102,29 @@ impl Graph {
         ensures second { IfOk result (λ both. both.1 ≡ self) }
         ensures back { IfErr result (λ graph. graph ≡ self) }
     {
-        match self.forms.copy() {
-            Ok(forms) => {
-                let other = Graph {
-                    forms,
-                    drawn: self.drawn,
-                    alloc: self.alloc,
-                };
-                Ok((self, other))
-            }
-            Err(_) => Err(self),
+        let Graph {
+            forms,
+            drawn,
+            alloc,
+        } = self;
+        match forms.merged().share() {
+            Ok((one, other)) => Ok((
+                Graph {
+                    forms: one,
+                    drawn,
+                    alloc,
+                },
+                Graph {
+                    forms: other,
+                    drawn,
+                    alloc,
+                },
+            )),
+            Err(forms) => Err(Graph {
+                forms,
+                drawn,
+                alloc,
+            }),
         }
     }
 
@@ -135,14 +148,15 @@ impl Graph {
         ensures ok { IfOk result (λ w. Makes self.old (form_term self.old form) w self.new) }
         ensures err { OnErr result (self.new ≡ self.old) }
     {
-        if let Some(i) = self.forms.find(&form) {
+        let key = self.forms.key(&form)?;
+        if let Some(i) = self.forms.find(&key) {
             return Ok(Word::Term(FIRST + i));
         }
-        let count = self.forms.len() as u64;
+        let count = self.forms.len();
         if count >= MOST {
             return Err(AllocError);
         }
-        self.forms.push(form)?;
+        self.forms.push(form, key)?;
         Ok(Word::Term(FIRST + count))
     }
 

@@ -1,8 +1,8 @@
 // Laws of terms.
-ghost use Rattle.std.specs.Prelude.{◌≡◌, ◌↔◌, ℕ, ◌^◌, ◌<◌, List, true};
+ghost use Rattle.std.specs.Prelude.{◌≡◌, ◌↔◌, ℕ, ◌^◌, ◌<◌, Bool, List, true};
 ghost use Rattle.std.specs.List.{AllByRecursion};
 ghost use Rattle.wasm_rules.specs.Words.{Gives};
-ghost use Rattle.bv_terms.specs.Terms.{Term as OneTerm, HasWidth, HasBits, is_same, value_of};
+ghost use Rattle.bv_terms.specs.Terms.{Term as OneTerm, HasWidth, HasBits, HasSymbols, is_same, value_of};
 ghost use Rattle.bv_terms.specs.declared.words.Word.{Word as OneWord};
 ghost use Rattle.bv_terms.specs.Graphs.{TermGraph, IsGraph, Holds, Makes, term_of, terms_of};
 ghost use Rattle.bv_terms.specs.Making.{IsSound, Keeps, rules, made, terms};
@@ -25,6 +25,11 @@ pub fn values_fit()
 /// The operations on terms give terms of the operators' widths.
 pub fn terms_have_widths()
     ensures { Gives terms HasBits }
+{}
+
+/// What is made of a term has no symbol that the term hasn't: so a call makes none that its operands haven't.
+pub fn making_adds_no_symbol()
+    ensures { (draws : List Bool) (t : OneTerm) → HasSymbols draws t → HasSymbols draws (made t) }
 {}
 
 /// The test of terms tells exactly which are the same.

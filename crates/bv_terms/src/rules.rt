@@ -1,13 +1,15 @@
 // The making rules, in code: each says which word is made in place of a form, where it fits.
-ghost use Rattle.std.specs.Prelude.{◌==◌, ◌&&◌, Some, ◌≡◌, ◌↔◌, ◌+◌, ◌<◌, ◌≤◌, List, All, IsTrue, map, length, slice_get, unwrap_or};
+ghost use Rattle.std.specs.Prelude.{◌==◌, ◌&&◌, Some, None, ◌≡◌, ◌↔◌, ◌+◌, ◌<◌, ◌≤◌, List, All, IsTrue, map, length, slice_get, unwrap_or};
 ghost use Rattle.int_ops.specs.Operators.{is_unary, is_binary, operand_bits, result_bits};
 ghost use Rattle.wasm_rules.specs.Words.{bits_where};
 ghost use Rattle.bv_terms.specs.declared.words.Word.TheVariants.{Num};
 ghost use Rattle.bv_terms.specs.Terms.{Term, Unary as UnaryOf, Binary as BinaryOf, Choose as ChooseOf, Byte as ByteOf, Join as JoinOf, bytes_from, HasWidth, width_of, are_same};
-ghost use Rattle.bv_terms.specs.Making.{of_numbers as numbers_rule, chosen_side as choice_rule, byte_of_join as byte_rule, join_of_bytes as join_rule, whole as whole_or_none, bytes_of_term, bytes_where, first_of, rules};
+ghost use Rattle.bv_terms.specs.Making.{of_numbers as numbers_rule, chosen_side as choice_rule, chosen_by as by_condition, byte_of_join as byte_rule, join_of_bytes as join_rule, whole as whole_or_none, bytes_of_term, bytes_where, first_of, rules};
 ghost use Rattle.bv_terms.specs.Graphs.{IsBelow, OperandsBelow, word_among, form_among, terms_of, IsGraph, RuleGives};
 
+use crate::comparisons::of_comparison;
 use crate::forms::Forms;
+use crate::operations::{adds_nothing, are_same, changes_nothing, leaves_nothing, of_same};
 use crate::words::{FIRST, Form, Word};
 use int_ops::{byte, join, operator, total, un};
 
@@ -27,7 +29,22 @@ pub fn by_rules(forms: &Forms, form: &Form) -> Option<Word>
     if let Some(word) = byte_of_join(forms, form) {
         return Some(word);
     }
-    join_of_bytes(forms, form)
+    if let Some(word) = join_of_bytes(forms, form) {
+        return Some(word);
+    }
+    if let Some(word) = adds_nothing(forms, form) {
+        return Some(word);
+    }
+    if let Some(word) = changes_nothing(forms, form) {
+        return Some(word);
+    }
+    if let Some(word) = leaves_nothing(forms, form) {
+        return Some(word);
+    }
+    if let Some(word) = of_comparison(forms, form) {
+        return Some(word);
+    }
+    of_same(forms, form)
 }
 
 /// An operation whose operands are all numbers gives the number.
@@ -126,7 +143,7 @@ fn joined_number(forms: &Forms, wide: bool, bytes: &[Word]) -> Option<Word>
     Some(Word::Num(join(&all[..bytes.len()])))
 }
 
-/// A choice by a number gives the chosen side.
+/// A choice by a number gives the chosen side, and a choice of one word twice gives that word.
 fn chosen_side(forms: &Forms, form: &Form) -> Option<Word>
     requires kept { IsGraph forms.now }
     requires below { OperandsBelow (256 + length forms.now) form.now }
@@ -147,8 +164,17 @@ fn side(forms: &Forms, wide: bool, c: Word, a: Word, b: Word) -> Option<Word>
 {
     match c {
         Word::Num(n) => Some(if n == 0 { b } else { a }),
-        Word::Term(_) => None,
+        Word::Term(_) => either_side(forms, a, b),
     }
+}
+
+fn either_side(forms: &Forms, a: Word, b: Word) -> Option<Word>
+    requires kept { IsGraph forms.now }
+    requires a_below { IsBelow (256 + length forms.now) a }
+    requires b_below { IsBelow (256 + length forms.now) b }
+    ensures { RuleGives forms.now (by_condition None (word_among (terms_of forms.now) a) (word_among (terms_of forms.now) b)) result }
+{
+    if are_same(forms, a, b) { Some(a) } else { None }
 }
 
 /// A byte of a join is the joined byte at its place, and 0 past them.
@@ -170,7 +196,7 @@ fn byte_of_word(forms: &Forms, a: Word, i: u32) -> Option<Word>
 {
     match a {
         Word::Num(_) => None,
-        Word::Term(t) => match forms.get((t - FIRST) as usize) {
+        Word::Term(t) => match forms.get(t - FIRST) {
             Form::Join { wide: _, bytes } => Some(byte_at(bytes.as_slice(), i as usize)),
             _ => None,
         },
@@ -219,7 +245,7 @@ fn whole_from(forms: &Forms, wide: bool, bytes: &[Word], first: Word) -> Option<
 {
     match first {
         Word::Num(_) => None,
-        Word::Term(t) => match forms.get((t - FIRST) as usize) {
+        Word::Term(t) => match forms.get(t - FIRST) {
             Form::Byte { a, i: _ } => where_whole(forms, wide, bytes, *a),
             _ => None,
         },
@@ -263,7 +289,7 @@ fn width(forms: &Forms, word: Word) -> u32
 {
     match word {
         Word::Num(_) => 0,
-        Word::Term(t) => width_of_form(forms.get((t - FIRST) as usize)),
+        Word::Term(t) => width_of_form(forms.get(t - FIRST)),
     }
 }
 
@@ -327,7 +353,7 @@ fn is_byte(forms: &Forms, word: Word, a: Word, i: u32) -> bool
 {
     match word {
         Word::Num(_) => false,
-        Word::Term(t) => match forms.get((t - FIRST) as usize) {
+        Word::Term(t) => match forms.get(t - FIRST) {
             Form::Byte { a: b, i: j } => are_equal(*b, *j, a, i),
             _ => false,
         },

@@ -10,7 +10,7 @@ pub type TermId = u64;
 pub const FIRST: TermId = 256;
 
 /// A word: a number, or a term of a graph.
-#[derive(Clone, Copy, Debug, PartialEq, Eq)]
+#[derive(Clone, Copy, Debug, PartialEq, Eq, PartialOrd, Ord)]
 pub enum Word {
     /// A number.
     Num(u64),

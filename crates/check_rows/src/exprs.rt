@@ -130,8 +130,6 @@ fn bare(word: &str) -> Option<Instr> {
         "memory.grow" => Some(Instr::MemoryGrow),
         "memory.copy" => Some(Instr::MemoryCopy),
         "memory.fill" => Some(Instr::MemoryFill),
-        "i32.const" => Some(Instr::Const32(0)),
-        "i64.const" => Some(Instr::Const64(0)),
         _ => None,
     }
 }
@@ -231,6 +229,12 @@ fn typed(alloc: Global, words: &mut Words) -> Result<Instr, AllocError> {
 fn special(alloc: Global, words: &mut Words, word: &str) -> Result<Option<Instr>, AllocError> {
     if word == "br_table" {
         return Ok(Some(table(alloc, words)?));
+    }
+    if word == "i32.const" {
+        return Ok(Some(Instr::Const32(words.number().unwrap_or(0))));
+    }
+    if word == "i64.const" {
+        return Ok(Some(Instr::Const64(words.number().unwrap_or(0) as u64)));
     }
     if word == "select_typed" {
         return Ok(Some(typed(alloc, words)?));

@@ -23,7 +23,8 @@ fn empty(alloc: Global) -> Module {
     }
 }
 
-fn kinds(alloc: Global, words: &mut Words) -> Result<List<ValType>, AllocError> {
+/// The value types that come next.
+pub fn kinds(alloc: Global, words: &mut Words) -> Result<List<ValType>, AllocError> {
     let mut kinds = List::new(Vec::new(alloc));
     for _ in 0..1_000_000 {
         let Some(kind) = words.kind() else {
@@ -347,6 +348,11 @@ fn parts(alloc: Global, m: &mut Module, line: &str) -> Result<bool, AllocError> 
             break;
         };
         if word == ";" || word == "full" {
+            continue;
+        }
+        if word == "image" {
+            let _ = words.next();
+            let _ = kinds(alloc, &mut words)?;
             continue;
         }
         if !part(alloc, m, &mut words, word)? {

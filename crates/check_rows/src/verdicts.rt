@@ -1,4 +1,5 @@
 // What the validator says of a module.
+use crate::images::image_says;
 use crate::parts::module_of;
 use std::alloc::{AllocError, Global};
 use wasm_ast::{Module, has_shape};
@@ -27,12 +28,17 @@ fn said(alloc: Global, why: Why) -> Result<String, AllocError> {
     }
 }
 
-fn verdict(alloc: Global, m: Module) -> Result<String, AllocError> {
+fn verdict(alloc: Global, line: &str, m: Module) -> Result<String, AllocError> {
     if !has_shape(alloc, &m)? {
         return String::from_str(alloc, "no shape");
     }
     match check(alloc, m) {
-        Ok(checked) => String::from_str(alloc, passes(&checked)),
+        Ok(checked) => {
+            if line.starts_with("image") {
+                return image_says(alloc, line, checked);
+            }
+            String::from_str(alloc, passes(&checked))
+        }
         Err(refused) => said(alloc, refused.why),
     }
 }
@@ -41,6 +47,6 @@ fn verdict(alloc: Global, m: Module) -> Result<String, AllocError> {
 pub fn verdict_of(alloc: Global, line: &str) -> Result<String, AllocError> {
     match module_of(alloc, line)? {
         None => String::from_str(alloc, "no module"),
-        Some(m) => verdict(alloc, m),
+        Some(m) => verdict(alloc, line, m),
     }
 }

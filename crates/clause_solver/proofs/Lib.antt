@@ -3,9 +3,12 @@ pub mod Places
 pub mod Results
 pub mod Numbers
 pub mod Watching
+pub mod Guarding
+pub mod Settling
+pub mod Visiting
 pub mod Joins
 pub mod Analyses
 pub mod Running
 pub mod Models
 pub mod Turning
-pub mod Formulas
+pub mod OneAnswer

@@ -1,10 +1,10 @@
 -- What clauses are on a trail, a step at a time.
-use Rattle.std.proofs.Common.{◌≡◌, ◌<◌, ◌≤◌, ◌+◌, ℕ, zero, suc, List, [], ◌∷◌, length, drop, get_or, refl, ap, ◌∙◌, arith}
-use Rattle.std.specs.Prelude.{Option, Some, None}
+use Rattle.std.proofs.Common.{◌≡◌, ◌<◌, ◌≤◌, ◌+◌, ℕ, zero, suc, List, [], ◌∷◌, length, drop, get_or, refl, sym, ap, ◌∙◌, arith}
+use Rattle.std.specs.Prelude.{Option, Some, None, IfSome, slice_get}
 use Rattle.clause_solver.specs.Seen.{status_seen}
 use Rattle.clause_solver.specs.declared.rules.Status.{Status as OneStatus}
 use Rattle.clause_solver.specs.declared.rules.Status.TheVariants.{Falsified as IsFalsified, Forces as DoesForce, Idle as IsIdle}
-use Rattle.refute_check.specs.Machine.{Trail, Unset, value_of, Status, Falsified, Forces, status_with, status}
+use Rattle.refute_check.specs.Machine.{Trail, False, Unset, value_of, Status, Falsified, Forces, status_with, status}
 
 -- a status with an unset literal before
 abbrev pub with_unset : Option ℕ → Status → Status
@@ -44,3 +44,27 @@ pub not_forces : (s : OneStatus) → ((l : ℕ) → s ≡ DoesForce l → ⊥) �
 not_forces IsFalsified n l e = cc
 not_forces (DoesForce k) n l e = n k refl
 not_forces IsIdle n l e = cc
+
+-- a loop over literals passes a false one, or the first that is unset
+module _ (t : Trail) (c : List ℕ) (i : ℕ) (s : Status) (l : i < length c) where
+  pub passed_false : (o : Option ℕ) → False ≡ value_of t (get_or c i 0) → s ≡ with_unset o (status t (drop i c)) → s ≡ with_unset o (status t (drop (i + 1) c))
+  passed_false o v h = h ∙ ap (λ x. with_unset o x) (status_at t c i l ∙ ap (λ v. status_with v (get_or c i 0) (status t (drop (i + 1) c))) (sym v))
+
+  pub passed_unset : Unset ≡ value_of t (get_or c i 0) → s ≡ with_unset None (status t (drop i c)) → s ≡ with_unset (Some (get_or c i 0)) (status t (drop (i + 1) c))
+  passed_unset v h = h ∙ status_at t c i l ∙ ap (λ v. status_with v (get_or c i 0) (status t (drop (i + 1) c))) (sym v)
+
+-- where the first unset literal of a clause stands
+abbrev pub IsPlace : Trail → List ℕ → ℕ → ℕ → Type 0
+IsPlace t c i first = (at : ℕ) × (at < i) × (slice_get c at ≡ Some first) × (value_of t first ≡ Unset)
+
+pub place_kept : (t : Trail) (c : List ℕ) (i : ℕ) (o : Option ℕ) → IfSome o (λ first. IsPlace t c i first) → IfSome o (λ first. IsPlace t c (i + 1) first)
+place_kept t c i None h = h
+place_kept t c i (Some x) h = (h.0, omega (arith, h.1), h.2, h.3)
+
+get_at : (c : List ℕ) (i : ℕ) → i < length c → slice_get c i ≡ Some (get_or c i 0)
+get_at [] i l = absurd (omega (arith, l))
+get_at (x ∷ c) zero l = refl
+get_at (x ∷ c) (suc i) l = get_at c i (omega (arith, l))
+
+pub place_here : (t : Trail) (c : List ℕ) (i : ℕ) → i < length c → Unset ≡ value_of t (get_or c i 0) → IsPlace t c (i + 1) (get_or c i 0)
+place_here t c i l v = (i, omega arith, get_at c i l, sym v)

@@ -1,5 +1,5 @@
 -- What a turn comes to, by the rule that fits.
-use Rattle.std.proofs.Common.{◌≡◌, ◌<◌, ◌+◌, ℕ, List, [], ◌∷◌, ◌++◌, inl, inr, refl, sym, ap, ◌∙◌, subst, arith}
+use Rattle.std.proofs.Common.{◌≡◌, ◌<◌, ℕ, List, [], ◌∷◌, ◌++◌, inl, inr, refl, sym, ap, ◌∙◌, subst, arith}
 use Rattle.refute_check.specs.Orders.{Names}
 use Rattle.refute_check.proofs.Membership.{variable-negative}
 use Rattle.refute_check.proofs.Trails.{unset-is, forced-is, status-forces}

@@ -1,15 +1,14 @@
 -- How it is kept which clauses a turn has to look at.
 use Rattle.std.proofs.Common.{◌⊎◌, inl, inr, ◌≡◌, ◌<◌, ◌≤◌, ◌+◌, ◌-◌, ◌%◌, ℕ, zero, suc, List, [], ◌∷◌, ◌++◌, length, map, take, get_or, refl, sym, ap, ◌∙◌, subst, arith}
-use Rattle.std.specs.Prelude.{Bool, true, false, ◌==◌, ◌||◌, if◌then◌else◌, Option, Some, None, slice_get, slice_set, nat_lt, Vec}
-use Rattle.std.proofs.lemmas.Bool.{eqb-true, eq-eqb, ltb-true, true≢false}
-use Rattle.std.proofs.lemmas.List.{map-set, map-append, take_more, take_all, length-take-le}
+use Rattle.std.specs.Prelude.{Bool, true, false, ◌==◌, ◌||◌, if◌then◌else◌, Option, Some, None, slice_get, slice_set, Vec}
+use Rattle.std.proofs.lemmas.Bool.{eqb-true, eq-eqb, true≢false}
+use Rattle.std.proofs.lemmas.List.{map-set, map-append, take_more}
 use Rattle.std.proofs.lemmas.List.Folds.{list_any-append}
-use Rattle.std.proofs.lemmas.Option.{slice_get-get_or}
 use Rattle.refute_check.specs.Clauses.{Clause, variable_of}
 use Rattle.refute_check.specs.Resolution.{has}
 use Rattle.refute_check.specs.Machine.{Entry, Trail, entry_of, Value, True, False, Unset, value_at, value_of, Status, Falsified, Forces, Idle, status_with, status, falsified_with, falsified, forced_with, forced, unset_with, unset}
 use Rattle.refute_check.proofs.Membership.{apart}
-use Rattle.clause_solver.specs.Watching.{opposite, status_at, IsSeenAs, IsSeen, AreAmong, listed, Looked, Put, IsListed, AllSet}
+use Rattle.clause_solver.specs.Watching.{opposite, status_at, IsSeenAs, IsSeen, AreAmong, listed, Put, AllSet}
 
 pub among_then : (ks ls ms : List ℕ) → AreAmong ks ls → AreAmong ls ms → AreAmong ks ms
 among_then ks ls ms a b = λ n h. b n (a n h)
@@ -37,21 +36,6 @@ module _ (t : Trail) (o : Option Clause) (fs gs : List ℕ) (n : ℕ) where
 
 pub seen_past : (t : Trail) (cs : List Clause) (fs gs : List ℕ) (n : ℕ) → length cs ≤ n → IsSeen t cs fs gs n
 seen_past t cs fs gs n h = seen_idle t (slice_get cs n) fs gs n (status_past t cs n h)
-
--- the numbers before this one are looked at, and then it
-pub seen_next : (t : Trail) (cs : List Clause) (fs gs hs ks : List ℕ) (i : ℕ) → ((n : ℕ) → n < i → IsSeen t cs fs gs n) → AreAmong fs hs → AreAmong gs ks → IsSeen t cs hs ks i → (n : ℕ) → n < i + 1 → IsSeen t cs hs ks n
-seen_next t cs fs gs hs ks i before a b here n l = go (n == i) refl
-  where
-    go : (b : Bool) → (n == i) ≡ b → IsSeen t cs hs ks n
-    go true e = subst (λ n. IsSeen t cs hs ks n) (sym (eqb-true n i e)) here
-    go false e = seen_more t (slice_get cs n) fs gs hs ks n a b (before n (grind (arith, l, e)))
-
-pub seen_all : (t : Trail) (cs : List Clause) (fs gs : List ℕ) (i : ℕ) → length cs ≤ i → ((n : ℕ) → n < i → IsSeen t cs fs gs n) → (n : ℕ) → IsSeen t cs fs gs n
-seen_all t cs fs gs i h before n = go (nat_lt n i) refl
-  where
-    go : (b : Bool) → nat_lt n i ≡ b → IsSeen t cs fs gs n
-    go true e = before n (ltb-true n i e)
-    go false e = seen_past t cs fs gs n (grind (arith, h, e))
 
 -- a stale number is taken off
 pub seen_taken : (t : Trail) (cs : List Clause) (fs gs hs : List ℕ) (k : ℕ) → ((n : ℕ) → IsSeen t cs fs gs n) → ((n : ℕ) → has fs n ≡ true → (n ≡ k) ⊎ (has hs n ≡ true)) →
@@ -86,50 +70,17 @@ idle_with True m = refl
 idle_with False m = refl
 idle_with Unset m = refl
 
--- a clause without the opposite literal is as it was, or idle
-unmoved : (t : Trail) (e : Entry) (c : Clause) → has c (opposite e.literal) ≡ false → (status (e ∷ t) c ≡ Idle) ⊎ (status (e ∷ t) c ≡ status t c)
-unmoved t e [] h = inr refl
-unmoved t e (m ∷ c) h = go (λ r. unmoved t e c r) (m == opposite e.literal) refl h
+-- a literal that isn't the opposite one becomes true, or stays what it was
+pub value_moved : (t : Trail) (e : Entry) (m : ℕ) → (m ≡ opposite e.literal → ⊥) → (value_of (e ∷ t) m ≡ True) ⊎ (value_of (e ∷ t) m ≡ value_of t m)
+value_moved t e m n = by (variable_of e.literal == variable_of m) refl
   where
-    literal : (m ≡ opposite e.literal → ⊥) → (value_of (e ∷ t) m ≡ True) ⊎ (value_of (e ∷ t) m ≡ value_of t m)
-    literal n = by (variable_of e.literal == variable_of m) refl
+    by : (b : Bool) → (variable_of e.literal == variable_of m) ≡ b → (value_at m (if b then Some e else entry_of t (variable_of m)) ≡ True) ⊎ (value_at m (if b then Some e else entry_of t (variable_of m)) ≡ value_of t m)
+    by false f = inr refl
+    by true f = same (two_literals e.literal m (eqb-true (variable_of e.literal) (variable_of m) f))
       where
-        by : (b : Bool) → (variable_of e.literal == variable_of m) ≡ b → (value_at m (if b then Some e else entry_of t (variable_of m)) ≡ True) ⊎ (value_at m (if b then Some e else entry_of t (variable_of m)) ≡ value_of t m)
-        by false f = inr refl
-        by true f = same (two_literals e.literal m (eqb-true (variable_of e.literal) (variable_of m) f))
-          where
-            same : (m ≡ e.literal) ⊎ (m ≡ opposite e.literal) → ((if e.literal == m then True else False) ≡ True) ⊎ ((if e.literal == m then True else False) ≡ value_of t m)
-            same (inl g) = inl (ap (λ b. if b then True else False) (eq-eqb e.literal m (sym g)))
-            same (inr g) = absurd (n g)
-
-    both : (value_of (e ∷ t) m ≡ True) ⊎ (value_of (e ∷ t) m ≡ value_of t m) → (status (e ∷ t) c ≡ Idle) ⊎ (status (e ∷ t) c ≡ status t c) → (status (e ∷ t) (m ∷ c) ≡ Idle) ⊎ (status (e ∷ t) (m ∷ c) ≡ status t (m ∷ c))
-    both (inl v) r = inl (ap (λ v. status_with v m (status (e ∷ t) c)) v)
-    both (inr v) (inl r) = inl (ap (λ s. status_with (value_of (e ∷ t) m) m s) r ∙ idle_with (value_of (e ∷ t) m) m)
-    both (inr v) (inr r) = inr (ap (λ v. status_with v m (status (e ∷ t) c)) v ∙ ap (λ s. status_with (value_of t m) m s) r)
-
-    go : (has c (opposite e.literal) ≡ false → (status (e ∷ t) c ≡ Idle) ⊎ (status (e ∷ t) c ≡ status t c)) → (b : Bool) → (m == opposite e.literal) ≡ b → (b || has c (opposite e.literal)) ≡ false →
-        (status (e ∷ t) (m ∷ c) ≡ Idle) ⊎ (status (e ∷ t) (m ∷ c) ≡ status t (m ∷ c))
-    go rec true f h = absurd (true≢false h)
-    go rec false f h = both (literal (apart m (opposite e.literal) f)) (rec h)
-
--- Where the clauses with the opposite literal were looked at, all are seen.
-pub seen_put : (t : Trail) (e : Entry) (cs : List Clause) (lists : List (List ℕ)) (fs gs hs ks : List ℕ) → ((n : ℕ) → IsSeen t cs fs gs n) → ((n : ℕ) → IsListed lists cs n) →
-    AreAmong fs hs → AreAmong gs ks → ((n : ℕ) → has (listed lists (opposite e.literal)) n ≡ true → IsSeen (e ∷ t) cs hs ks n) → (n : ℕ) → IsSeen (e ∷ t) cs hs ks n
-seen_put t e cs lists fs gs hs ks seen all a b looked n = go (slice_get cs n) refl
-  where
-    go : (o : Option Clause) → slice_get cs n ≡ o → IsSeenAs (e ∷ t) o hs ks n
-    go None f = (λ e. cc, λ l e. cc)
-    go (Some c) f = by (has c (opposite e.literal)) refl
-      where
-        was : (status (e ∷ t) c ≡ Idle) ⊎ (status (e ∷ t) c ≡ status t c) → IsSeenAs (e ∷ t) (Some c) hs ks n
-        was (inl r) = seen_idle (e ∷ t) (Some c) hs ks n (sym r)
-        was (inr r) =
-            let s : IsSeenAs t (Some c) fs gs n = subst (λ o. IsSeenAs t o fs gs n) f (seen n) in
-            (λ g. a n (s.0 (sym r ∙ g)), λ l g. b n (s.1 l (sym r ∙ g)))
-
-        by : (b : Bool) → has c (opposite e.literal) ≡ b → IsSeenAs (e ∷ t) (Some c) hs ks n
-        by true g = subst (λ o. IsSeenAs (e ∷ t) o hs ks n) f (looked n (all n c f (opposite e.literal) g))
-        by false g = was (unmoved t e c g)
+        same : (m ≡ e.literal) ⊎ (m ≡ opposite e.literal) → ((if e.literal == m then True else False) ≡ True) ⊎ ((if e.literal == m then True else False) ≡ value_of t m)
+        same (inl g) = inl (ap (λ b. if b then True else False) (eq-eqb e.literal m (sym g)))
+        same (inr g) = absurd (n g)
 
 -- ---- the least number
 
@@ -288,75 +239,7 @@ listed_longer [] (suc j) = refl
 listed_longer (m ∷ ls) zero = refl
 listed_longer (m ∷ ls) (suc j) = listed_longer ls j
 
--- one clause more
-pub listed_more : (ls ms : List (List ℕ)) (cs : List Clause) (d : Clause) → ((n : ℕ) → IsListed ls cs n) → ((l : ℕ) → AreAmong (listed ls l) (listed ms l)) →
-    ((l : ℕ) → has d l ≡ true → has (listed ms l) (length cs) ≡ true) → (n : ℕ) → IsListed ms (cs ++ d ∷ []) n
-listed_more ls ms cs d all kept put n = λ c at l h. go c l h (split cs n c at)
-  where
-    split : (cs : List Clause) (n : ℕ) (c : Clause) → slice_get (cs ++ d ∷ []) n ≡ Some c → (slice_get cs n ≡ Some c) ⊎ ((n ≡ length cs) × (c ≡ d))
-    split [] zero c at = inr (refl, cc)
-    split [] (suc n) c at = cc
-    split (b ∷ cs) zero c at = inl at
-    split (b ∷ cs) (suc n) c at = next (split cs n c at)
-      where
-        next : (slice_get cs n ≡ Some c) ⊎ ((n ≡ length cs) × (c ≡ d)) → (slice_get cs n ≡ Some c) ⊎ ((suc n ≡ suc (length cs)) × (c ≡ d))
-        next (inl e) = inl e
-        next (inr e) = inr (ap suc e.0, e.1)
-
-    go : (c : Clause) (l : ℕ) → has c l ≡ true → (slice_get cs n ≡ Some c) ⊎ ((n ≡ length cs) × (c ≡ d)) → has (listed ms l) n ≡ true
-    go c l h (inl e) = kept l n (all n c e l h)
-    go c l h (inr e) = ap (λ n. has (listed ms l) n) e.0 ∙ put l (sym (ap (λ c. has c l) e.1) ∙ h)
-
 -- ---- loops
-
--- the numbers before this one are looked at, and then it
-pub looked_none : (t : Trail) (cs : List Clause) (fs gs ns : List ℕ) → Looked t cs fs gs fs gs (take 0 ns)
-looked_none t cs fs gs ns = record { falsified_kept = λ n h. h; forcing_kept = λ n h. h; seen = λ n h. absurd (true≢false (sym h)) }
-
-pub looked_one : (t : Trail) (cs : List Clause) (fs gs hs ks : List ℕ) (n : ℕ) → AreAmong fs hs → AreAmong gs ks → IsSeen t cs hs ks n → Looked t cs fs gs hs ks (n ∷ [])
-looked_one t cs fs gs hs ks n a b s = record { falsified_kept = a; forcing_kept = b; seen = λ m h. subst (λ m. IsSeen t cs hs ks m) (only m h) s }
-  where
-    only : (m : ℕ) → has (n ∷ []) m ≡ true → n ≡ m
-    only m h = go (n == m) refl h
-      where
-        go : (b : Bool) → (n == m) ≡ b → (b || false) ≡ true → n ≡ m
-        go true e h = eqb-true n m e
-        go false e h = absurd (true≢false (sym h))
-
-pub looked_next : (t : Trail) (cs : List Clause) (ds es fs gs hs ks ns : List ℕ) (i : ℕ) → i < length ns → Looked t cs ds es fs gs (take i ns) → Looked t cs fs gs hs ks (get_or ns i 0 ∷ []) → Looked t cs ds es hs ks (take (i + 1) ns)
-looked_next t cs ds es fs gs hs ks ns i l before here = record {
-  falsified_kept = among_then ds fs hs before.falsified_kept here.falsified_kept;
-  forcing_kept = among_then es gs ks before.forcing_kept here.forcing_kept;
-  seen = λ n h. go n (has_next ns i n l h);
-}
-  where
-    go : (n : ℕ) → (has (take i ns) n ≡ true) ⊎ (get_or ns i 0 ≡ n) → IsSeen t cs hs ks n
-    go n (inl e) = seen_more t (slice_get cs n) fs gs hs ks n here.falsified_kept here.forcing_kept (before.seen n e)
-    go n (inr e) = here.seen n (ap (λ b. b || false) (eq-eqb (get_or ns i 0) n e))
-
-pub looked_all : (t : Trail) (cs : List Clause) (ds es fs gs ns : List ℕ) (i : ℕ) → length ns ≤ i → Looked t cs ds es fs gs (take i ns) → Looked t cs ds es fs gs ns
-looked_all t cs ds es fs gs ns i l h = subst (λ ns. Looked t cs ds es fs gs ns) (take_all i ns l) h
-
--- one clause more of all is looked at
-pub seen_step : (t : Trail) (cs : List Clause) (fs gs hs ks : List ℕ) (i : ℕ) → ((n : ℕ) → n < i → IsSeen t cs fs gs n) → Looked t cs fs gs hs ks (i ∷ []) → (n : ℕ) → n < i + 1 → IsSeen t cs hs ks n
-seen_step t cs fs gs hs ks i before here = seen_next t cs fs gs hs ks i before here.falsified_kept here.forcing_kept (here.seen i (ap (λ b. b || false) (eq-eqb i i refl)))
-
--- the number of a clause is listed for one literal more of it
-pub put_none : (ls : List (List ℕ)) (k : ℕ) (c : Clause) → Put ls ls k (take 0 c)
-put_none ls k c = record { kept = λ l n h. h; put = λ l h. absurd (true≢false (sym h)) }
-
-pub put_next : (ls ms ns : List (List ℕ)) (k : ℕ) (c : Clause) (i : ℕ) → i < length c → Put ls ms k (take i c) → Put ms ns k (get_or c i 0 ∷ []) → Put ls ns k (take (i + 1) c)
-put_next ls ms ns k c i m before here = record {
-  kept = λ l. among_then (listed ls l) (listed ms l) (listed ns l) (before.kept l) (here.kept l);
-  put = λ l h. go l (has_next c i l m h);
-}
-  where
-    go : (l : ℕ) → (has (take i c) l ≡ true) ⊎ (get_or c i 0 ≡ l) → has (listed ns l) k ≡ true
-    go l (inl e) = here.kept l k (before.put l e)
-    go l (inr e) = here.put l (ap (λ b. b || false) (eq-eqb (get_or c i 0) l e))
-
-pub put_all : (ls ms : List (List ℕ)) (k : ℕ) (c : Clause) (i : ℕ) → length c ≤ i → Put ls ms k (take i c) → Put ls ms k c
-put_all ls ms k c i l h = subst (λ c. Put ls ms k c) (take_all i c l) h
 
 -- a number at the end of one list, where lists were made before
 pub put_one : (ls ms ns : List (List ℕ)) (k l : ℕ) → ((j : ℕ) → listed ms j ≡ listed ls j) → l < length ms → ns ≡ slice_set ms l (listed ms l ++ k ∷ []) → Put ls ns k (l ∷ [])
@@ -400,33 +283,7 @@ module _ {Z : Type 0} where
       ap (λ ws. listed (map (λ (v : Vec ℕ Z). v.items) ws) i) is ∙ ap (λ ls. listed ls i) (map-append (λ (v : Vec ℕ Z). v.items) vs (v ∷ []) ∙ ap (λ l. map (λ (v : Vec ℕ Z). v.items) vs ++ l ∷ []) e)
       ∙ listed_longer (map (λ (v : Vec ℕ Z). v.items) vs) i
 
--- one clause more is listed
-pub listed_next : (ls ms : List (List ℕ)) (cs : List Clause) (i : ℕ) (c : Clause) → i < length cs → slice_get cs i ≡ Some c → ((n : ℕ) → IsListed ls (take i cs) n) → Put ls ms i c → (n : ℕ) → IsListed ms (take (i + 1) cs) n
-listed_next ls ms cs i c m at all h n =
-    let same : get_or cs i c ≡ c = let e = slice_get-get_or cs i c m in cc in
-    subst (λ cs. IsListed ms cs n) (sym (take_more cs i c m ∙ ap (λ c. take i cs ++ c ∷ []) same))
-    (listed_more ls ms (take i cs) c all h.kept (λ l e. ap (λ k. has (listed ms l) k) (length-take-le i cs (omega (arith, m))) ∙ h.put l e) n)
-
-pub listed_none : (ls : List (List ℕ)) (cs : List Clause) (n : ℕ) → IsListed ls (take 0 cs) n
-listed_none ls cs n = λ c at. cc
-
-pub listed_all : (ls : List (List ℕ)) (cs : List Clause) (i : ℕ) → length cs ≤ i → ((n : ℕ) → IsListed ls (take i cs) n) → (n : ℕ) → IsListed ls cs n
-listed_all ls cs i m all n = subst (λ cs. IsListed ls cs n) (take_all i cs m) (all n)
-
 -- ---- turns
-
--- one literal more is on the trail
-pub seen_after : (t u : Trail) (e : Entry) (cs : List Clause) (lists : List (List ℕ)) (fs gs hs ks ns : List ℕ) → u ≡ e ∷ t → ns ≡ listed lists (opposite e.literal) → ((n : ℕ) → IsSeen t cs fs gs n) → ((n : ℕ) → IsListed lists cs n) →
-    Looked u cs fs gs hs ks ns → (n : ℕ) → IsSeen u cs hs ks n
-seen_after t u e cs lists fs gs hs ks ns is at seen all looked n =
-    subst (λ u. IsSeen u cs hs ks n) (sym is)
-    (seen_put t e cs lists fs gs hs ks seen all looked.falsified_kept looked.forcing_kept (λ m h. subst (λ u. IsSeen u cs hs ks m) is (looked.seen m (ap (λ ns. has ns m) at ∙ h))) n)
 
 pub set_after : (t u : Trail) (e : Entry) (vs : List ℕ) → u ≡ e ∷ t → AllSet t vs → AllSet u vs
 set_after t u e vs is h = subst (λ u. AllSet u vs) (sym is) (set_put e t vs h)
-
--- one clause more is there
-pub listed_after : (ls ms : List (List ℕ)) (cs ds : List Clause) (d c : Clause) (k : ℕ) → ds ≡ cs ++ d ∷ [] → k ≡ length cs → c ≡ d → Put ls ms k c → ((n : ℕ) → IsListed ls cs n) → (n : ℕ) → IsListed ms ds n
-listed_after ls ms cs ds d c k is at same h all n =
-    subst (λ ds. IsListed ms ds n) (sym is)
-    (listed_more ls ms cs d all h.kept (λ l e. ap (λ k. has (listed ms l) k) (sym at) ∙ h.put l (ap (λ c. has c l) same ∙ e)) n)

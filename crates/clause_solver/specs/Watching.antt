@@ -2,6 +2,8 @@
 use Rattle.std.specs.Prelude.{◌≡◌, ℕ, ◌+◌, ◌-◌, ◌%◌, true, ◌==◌, if◌then◌else◌, List, [], ◌∷◌, Option, Some, None, slice_get, unwrap_or}
 use Rattle.refute_check.specs.Clauses.{Clause}
 use Rattle.refute_check.specs.Resolution.{has}
+use Rattle.clause_solver.specs.declared.rules.Status as code
+use Rattle.clause_solver.specs.declared.rules.Status.TheVariants as statuses
 use Rattle.refute_check.specs.Machine.{Entry, Trail, entry_of, Status, status, Falsified, Forces, Idle}
 
 -- the other literal of a literal's variable
@@ -26,21 +28,15 @@ IsSeen trail clauses falsified forcing number = IsSeenAs trail (slice_get clause
 abbrev pub AreAmong : List ℕ → List ℕ → Type 0
 AreAmong first second = (number : ℕ) → has first number ≡ true → has second number ≡ true
 
--- The sets kept their numbers, and have these too where they have to.
-pub record Looked (trail : Trail) (clauses : List Clause) (falsified forcing new_falsified new_forcing numbers : List ℕ) : Type 0 where
-  pub falsified_kept : AreAmong falsified new_falsified
-  pub forcing_kept : AreAmong forcing new_forcing
-  pub seen : (number : ℕ) → has numbers number ≡ true → IsSeen trail clauses new_falsified new_forcing number
+-- The number is where its status puts it.
+abbrev pub IsNoted : code.Status → List ℕ → List ℕ → ℕ → Type 0
+IsNoted statuses.Falsified falsified forcing number = has falsified number ≡ true
+IsNoted (statuses.Forces literal) falsified forcing number = has forcing number ≡ true
+IsNoted statuses.Idle falsified forcing number = Unit {0}
 
 -- the numbers that are listed for a literal
 abbrev pub listed : List (List ℕ) → ℕ → List ℕ
 listed lists literal = unwrap_or (slice_get lists literal) []
-
--- this clause is listed for each of its literals
-abbrev pub IsListed : List (List ℕ) → List Clause → ℕ → Type 0
-IsListed lists clauses number =
-    (clause : Clause) → slice_get clauses number ≡ Some clause
-    → (literal : ℕ) → has clause literal ≡ true → has (listed lists literal) number ≡ true
 
 -- The lists kept their numbers, and this number is in those of these literals.
 pub record Put (lists new : List (List ℕ)) (number : ℕ) (literals : List ℕ) : Type 0 where

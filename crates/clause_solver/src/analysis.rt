@@ -108,7 +108,7 @@ fn step(
 }
 
 /// How many literals have this level.
-fn count_at(trail: &Trail, level: u64, clause: &[u64]) -> usize
+pub fn count_at(trail: &Trail, level: u64, clause: &[u64]) -> usize
     ensures { result ≡ count_of trail.now level clause.now }
 {
     let mut count = 0;

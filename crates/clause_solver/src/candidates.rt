@@ -1,8 +1,9 @@
 // Which clauses a turn has to look at.
-ghost use Rattle.std.specs.Prelude.{◌≡◌, ◌≤◌, ◌<◌, ◌⊎◌, ℕ, List, [], ◌∷◌, Some, None, true, length, slice_get, OnOk, MatchOption};
+ghost use Rattle.std.specs.Prelude.{◌≡◌, ◌≤◌, ◌<◌, ◌⊎◌, ℕ, List, [], ◌∷◌, Some, None, true, IsTrue, length, slice_get, OnOk, MatchOption};
 ghost use Rattle.refute_check.specs.Machine.{falsified as falsified_of, forced as forced_of};
 ghost use Rattle.refute_check.specs.Resolution.{has};
-ghost use Rattle.clause_solver.specs.Watching.{IsSeen, AreAmong, Looked};
+ghost use Rattle.clause_solver.specs.Guarding.{AllKept};
+ghost use Rattle.clause_solver.specs.Watching.{IsSeen, AreAmong, IsNoted};
 
 use crate::rules::{Status, numbered_status};
 use crate::trail::Trail;
@@ -25,41 +26,29 @@ impl Candidates {
         }
     }
 
-    /// Looks at one clause.
-    pub fn look_at(
-        &mut self,
-        trail: &Trail,
-        clauses: &Items<Clause>,
-        number: u64,
-    ) -> Result<(), AllocError>
-        ensures { OnOk result (Looked trail.now clauses.now self.old.falsified.keys self.old.forcing.keys self.new.falsified.keys self.new.forcing.keys (number ∷ [])) }
+    /// Notes what a clause is.
+    pub fn note(&mut self, number: u64, status: Status) -> Result<(), AllocError>
+        ensures kept { OnOk result ((AreAmong self.old.falsified.keys self.new.falsified.keys) × (AreAmong self.old.forcing.keys self.new.forcing.keys)) }
+        ensures noted { OnOk result (IsNoted status self.new.falsified.keys self.new.forcing.keys number) }
     {
-        match numbered_status(trail, clauses, number) {
+        match status {
             Status::Falsified => put(&mut self.falsified, number),
             Status::Forces(_) => put(&mut self.forcing, number),
             Status::Idle => Ok(()),
         }
     }
 
-    /// Looks at the clauses of these numbers.
-    pub fn look_at_these(
-        &mut self,
-        trail: &Trail,
-        clauses: &Items<Clause>,
-        numbers: &[u64],
-    ) -> Result<(), AllocError>
-        ensures { OnOk result (Looked trail.now clauses.now self.old.falsified.keys self.old.forcing.keys self.new.falsified.keys self.new.forcing.keys numbers.now) }
-    {
-        for number in numbers {
-            self.look_at(trail, clauses, *number)?;
-        }
-        Ok(())
+    /// Forgets all.
+    pub fn clear(&mut self) {
+        self.falsified.clear();
+        self.forcing.clear();
     }
 
     /// The number of the first clause that is falsified.
     pub fn first_falsified(&mut self, trail: &Trail, clauses: &Items<Clause>) -> Option<usize>
         requires { (number : ℕ) → IsSeen trail.now clauses.now self.old.falsified.keys self.old.forcing.keys number }
         ensures seen { (number : ℕ) → IsSeen trail.now clauses.now self.new.falsified.keys self.new.forcing.keys number }
+        ensures kept { (pairs : List (ℕ × ℕ)) → AllKept trail.now clauses.now pairs self.old.falsified.keys self.old.forcing.keys → AllKept trail.now clauses.now pairs self.new.falsified.keys self.new.forcing.keys }
         ensures found { MatchOption result (falsified_of trail.now 0 clauses.now ≡ None)
             (λ number. (clause : List ℕ) × (slice_get clauses.now number ≡ Some clause) × (falsified_of trail.now 0 clauses.now ≡ Some (number, clause))) }
     {
@@ -76,6 +65,7 @@ impl Candidates {
     pub fn first_forcing(&mut self, trail: &Trail, clauses: &Items<Clause>) -> Option<(usize, u64)>
         requires { (number : ℕ) → IsSeen trail.now clauses.now self.old.falsified.keys self.old.forcing.keys number }
         ensures seen { (number : ℕ) → IsSeen trail.now clauses.now self.new.falsified.keys self.new.forcing.keys number }
+        ensures kept { (pairs : List (ℕ × ℕ)) → AllKept trail.now clauses.now pairs self.old.falsified.keys self.old.forcing.keys → AllKept trail.now clauses.now pairs self.new.falsified.keys self.new.forcing.keys }
         ensures found { result ≡ forced_of trail.now 0 clauses.now }
     {
         while let Some(number) = least(&self.forcing) {
@@ -85,18 +75,6 @@ impl Candidates {
             }
         }
         None
-    }
-
-    /// Forgets all, and looks at every clause.
-    pub fn look_at_all(&mut self, trail: &Trail, clauses: &Items<Clause>) -> Result<(), AllocError>
-        ensures { OnOk result ((number : ℕ) → IsSeen trail.now clauses.now self.new.falsified.keys self.new.forcing.keys number) }
-    {
-        self.falsified.clear();
-        self.forcing.clear();
-        for number in 0..clauses.len() {
-            self.look_at(trail, clauses, number as u64)?;
-        }
-        Ok(())
     }
 }
 

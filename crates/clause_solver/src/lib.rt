@@ -9,12 +9,14 @@ mod analysis;
 pub mod answer;
 mod candidates;
 pub mod crossing;
+pub mod laws;
 mod lists;
 mod machine;
 mod resolution;
 mod rules;
 pub mod solver;
 mod trail;
+mod watches;
 
 pub use answer::Answer;
 pub use solver::solve;

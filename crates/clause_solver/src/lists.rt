@@ -1,10 +1,12 @@
 // For each literal the numbers of the clauses that hold it.
-ghost use Rattle.std.specs.Prelude.{◌≡◌, ◌<◌, ◌++◌, ◌∷◌, [], ℕ, length, map, slice_set, IfOk, OnOk};
-ghost use Rattle.clause_solver.specs.Watching.{IsListed, Put, listed};
+ghost use Rattle.std.specs.Prelude.{◌≡◌, ◌≢◌, ◌<◌, ◌++◌, ◌∷◌, [], ◌⊎◌, ℕ, true, Some, length, map, slice_set, OnOk};
+ghost use Rattle.refute_check.specs.Resolution.{has};
+ghost use Rattle.clause_solver.specs.Watching.{Put, AreAmong, listed};
+ghost use Rattle.clause_solver.specs.Guarding.{ListedAs};
 
-use refute_check::{Clause, Items};
 use std::alloc::{AllocError, Global};
 use std::marker::Model;
+use std::mem;
 
 /// A list of numbers for each literal.
 #[derive(Drop)]
@@ -29,28 +31,43 @@ impl Lists {
         }
     }
 
-    /// The numbers of a literal.
-    pub fn of(&self, literal: u64) -> &[u64]
-        ensures { result.now ≡ listed self.now literal }
+    /// Takes the numbers of a literal out.
+    pub fn take(&mut self, alloc: Global, literal: u64) -> Vec<u64>
+        ensures taken { result.items ≡ listed self.old literal }
+        ensures kept { (other : ℕ) → other ≢ literal → listed self.new other ≡ listed self.old other }
     {
-        let literal = literal as usize;
-        if literal >= self.lists.len() {
-            return &[];
+        let at = literal as usize;
+        if at >= self.lists.len() {
+            return Vec::new(alloc);
         }
-        self.lists[literal].as_slice()
+        take_list(alloc, &mut self.lists, at)
     }
 
-    /// Lists a clause for each of its literals.
-    pub fn put(&mut self, alloc: Global, number: u64, clause: &[u64]) -> Result<(), AllocError>
-        ensures { OnOk result (Put self.old self.new number clause.now) }
+    /// Lists a clause for the two literals that it watches, the second only where it isn't listed for it yet: where it
+    /// didn't watch it before, or was taken out.
+    pub fn relist(
+        &mut self,
+        alloc: Global,
+        number: u64,
+        pair: (u64, u64),
+        before: (u64, u64),
+    ) -> Result<(), AllocError>
+        ensures kept { OnOk result ((literal : ℕ) → AreAmong (listed self.old literal) (listed self.new literal)) }
+        ensures listed { OnOk result ((before.1 ≡ before.0) ⊎ (has (listed self.old before.1) number ≡ true) → ListedAs self.new (Some pair) number) }
     {
-        for literal in clause {
-            self.put_one(alloc, number, *literal)?;
+        self.put_one(alloc, number, pair.0)?;
+        if pair.1 == pair.0 {
+            return Ok(());
         }
+        if pair.1 == before.1 && before.1 != before.0 {
+            return Ok(());
+        }
+        self.put_one(alloc, number, pair.1)?;
         Ok(())
     }
 
-    fn put_one(&mut self, alloc: Global, number: u64, literal: u64) -> Result<(), AllocError>
+    /// Lists a clause for a literal.
+    pub fn put_one(&mut self, alloc: Global, number: u64, literal: u64) -> Result<(), AllocError>
         ensures { OnOk result (Put self.old self.new number (literal ∷ [])) }
     {
         make_lists(alloc, &mut self.lists, literal as usize)?;
@@ -59,15 +76,13 @@ impl Lists {
     }
 }
 
-/// The lists of all these clauses.
-pub fn lists_of(alloc: Global, clauses: &Items<Clause>) -> Result<Lists, AllocError>
-    ensures { IfOk result (λ lists. (number : ℕ) → IsListed lists clauses.now number) }
+// Takes one of the lists out.
+fn take_list(alloc: Global, lists: &mut Vec<Vec<u64>>, at: usize) -> Vec<u64>
+    requires { at < length (map (λ list. list.items) lists.old.items) }
+    ensures taken { result.items ≡ listed (map (λ list. list.items) lists.old.items) at }
+    ensures kept { map (λ list. list.items) lists.new.items ≡ slice_set (map (λ list. list.items) lists.old.items) at [] }
 {
-    let mut lists = Lists::new(alloc);
-    for number in 0..clauses.len() {
-        lists.put(alloc, number as u64, clauses.get(number).as_slice())?;
-    }
-    Ok(lists)
+    mem::replace(&mut lists[at], Vec::new(alloc))
 }
 
 // Makes so many lists and one more.

@@ -2,9 +2,6 @@
 ghost use Rattle.std.specs.Prelude.{◌≡◌, ◌<◌, ◌≤◌, IfOk};
 ghost use Rattle.clause_solver.specs.Answers.{IsFormula, IsAnswer, IsRight, values_of};
 
-#[cfg(test)]
-mod tests;
-
 use crate::answer::Answer;
 use crate::machine::{State, Turned};
 use crate::trail::Trail;

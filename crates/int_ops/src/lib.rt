@@ -12,8 +12,6 @@ mod integers;
 pub mod laws;
 mod operators;
 mod table;
-#[cfg(test)]
-mod tests;
 mod values;
 
 pub use apply::{bin, total, un};

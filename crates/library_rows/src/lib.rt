@@ -1,9 +1,5 @@
-// Worked rows on the library's calls, each with what it must answer. They run with ample memory.
+// What no line of a program of rows can say of the library: that modules cross threads.
 #![tactic(auto)]
 
 #[cfg(test)]
-mod lists;
-#[cfg(test)]
 mod modules;
-#[cfg(test)]
-mod numbering;

@@ -7,8 +7,9 @@ use Rattle.std.proofs.lemmas.Bool.{lt-ltb, le-ltb, cases_lt}
 use Rattle.std.proofs.Math.Pow.{pow_mono}
 use Rattle.owi_base.specs.Leb.{SpellsUnsigned, unsigned_digits, unsigned_bytes, HasBits, SpellsSigned, RepeatsSign, last_value, low_bits, high_part, distance, signed_digits, signed_bytes}
 use Rattle.owi_base.proofs.SignedLaws.{half_more}
-use Rattle.owi_base.proofs.SignedReading.{signed_more, taken, passed}
+use Rattle.owi_base.proofs.SignedReading.{signed_more}
 use Rattle.owi_base.proofs.UnsignedLaws.{seven_more, spelled_more}
+use Rattle.owi_base.proofs.Choices.{taken, passed}
 
 -- ---- one step
 

@@ -6,7 +6,9 @@ use Rattle.owi_base.specs.declared.leb.LebBad.{LebBad}
 use Rattle.owi_base.specs.declared.leb.LebBad.TheVariants.{Cut, Long, Range}
 use Rattle.owi_base.specs.Leb.{SpellsSigned, SignedTrouble, RepeatsSign, last_value}
 use Rattle.owi_base.specs.LebReading.{read_signed, with_low_signed, placed}
-use Rattle.owi_base.proofs.UnsignedLaws.{chosen}
+use Rattle.owi_base.proofs.Results.{ok_not_err, err_not_ok, err_same}
+use Rattle.owi_base.proofs.LebReadings.{Front, front_one, front_more, front_at, told_at}
+use Rattle.owi_base.proofs.Choices.{chosen, taken, passed}
 
 abbrev Read : Type 0
 Read = Result (ℤ × ℕ) LebBad
@@ -43,23 +45,10 @@ part_err : (low : ℕ) (r : Read) (bad : LebBad) → with_low_signed low r ≡ E
 part_err low (Ok y) bad e = absurd cc
 part_err low (Err other) bad e = cc
 
-err_is_no_ok : (bad : LebBad) (x : ℤ × ℕ) → err bad ≡ ok x → ⊥
-err_is_no_ok bad x e = cc
-
-ok_is_no_err : (bad : LebBad) (x : ℤ × ℕ) → ok x ≡ err bad → ⊥
-ok_is_no_err bad x e = cc
-
-err_is : (bad other : LebBad) → err other ≡ err bad → bad ≡ other
-err_is bad other e = cc
-
 -- ---- what is read is spelled so
 
-pub record Takes (width : ℕ) (bytes : List ℕ) (z : ℤ) (k : ℕ) : Type 0 where
-  pub text : List ℕ
-  pub rest : List ℕ
-  pub parts : bytes ≡ text ++ rest
-  pub long : k ≡ length text
-  pub spelled : SpellsSigned width text z
+abbrev pub Takes : (width : ℕ) (bytes : List ℕ) (z : ℤ) (k : ℕ) → Type 0
+Takes width bytes z k = Front (λ text z. SpellsSigned width text z) bytes z k
 
 -- a byte that goes on stands before a spelling
 pub signed_more : (width b : ℕ) (high : ℤ) (text : List ℕ) → 7 < width → 128 ≤ b → SpellsSigned (width - 7) text high → SpellsSigned width (b ∷ text) (pos (b - 128) +ℤ (pos 128 *ℤ high))
@@ -67,20 +56,11 @@ signed_more width b high [] wide le spelled = absurd spelled
 signed_more width b high (c ∷ text) wide le spelled = (wide, le, high, refl, spelled)
 
 takes_one : (width b : ℕ) (bytes : List ℕ) (x : ℤ × ℕ) → b < 128 → (7 < width) ⊎ RepeatsSign width b → ok (last_value b, 1) ≡ ok x → Takes width (b ∷ bytes) x.0 x.1
-takes_one width b bytes x lt sign e =
-    let same : x ≡ (last_value b, 1) = cc in
-    record { text = b ∷ []; rest = bytes; parts = refl; long = ap (λ (p : ℤ × ℕ). p.1) same; spelled = (lt, sign, ap (λ (p : ℤ × ℕ). p.0) same) }
+takes_one width b bytes x lt sign e = front_one (λ text z. SpellsSigned width text z) b bytes (last_value b) x (lt, sign, refl) e
 
 takes_more : (width b : ℕ) (bytes : List ℕ) (x y : ℤ × ℕ) → 7 < width → 128 ≤ b → Takes (width - 7) bytes y.0 y.1 → x.0 ≡ (pos (b - 128) +ℤ (pos 128 *ℤ y.0)) → x.1 ≡ 1 + y.1 → Takes width (b ∷ bytes) x.0 x.1
 takes_more width b bytes x y wide le others number count =
-    let P : ℤ → Type 0 = λ z. SpellsSigned width (b ∷ others.text) z in
-    record {
-      text = b ∷ others.text;
-      rest = others.rest;
-      parts = ap (λ (l : List ℕ). b ∷ l) others.parts;
-      long = omega (arith, others.long);
-      spelled = subst P (sym number) (signed_more width b y.0 others.text wide le others.spelled);
-    }
+    front_more (λ text z. SpellsSigned width text z) (λ text z. SpellsSigned (width - 7) text z) b bytes x y (pos (b - 128) +ℤ (pos 128 *ℤ y.0)) (λ text s. signed_more width b y.0 text wide le s) others number count
 
 pub takes : (width : ℕ) (bytes : List ℕ) (x : ℤ × ℕ) → read_signed width bytes ≡ Ok x → Takes width bytes x.0 x.1
 takes width [] x e = absurd cc
@@ -98,22 +78,14 @@ takes width (b ∷ bytes) x e =
           | inl small ↦ takes_one width b bytes x (ltb-true b 128 lt.0) (inr (inl (ltb-true b (half width) small.0))) small.1
           | inr big ↦ elim (chosen (nat_le 128 (b + half width)) (Ok (last_value b, 1)) (Err Range) (Ok x) big.1) [
             | inl high ↦ takes_one width b bytes x (ltb-true b 128 lt.0) (inr (inr (leb-true 128 (b + half width) high.0))) high.1
-            | inr low ↦ absurd (err_is_no_ok Range x low.1)
+            | inr low ↦ absurd (err_not_ok x Range low.1)
           ]
         ]
-        | inr ge ↦ absurd (err_is_no_ok Long x ge.1)
+        | inr ge ↦ absurd (err_not_ok x Long ge.1)
       ]
     ]
 
 -- ---- what is spelled so is read
-
-pub taken : {X : Type 0} (b : Bool) (x y : X) → b ≡ true → cond b x y ≡ x
-taken true x y e = refl
-taken false x y e = absurd cc
-
-pub passed : {X : Type 0} (b : Bool) (x y : X) → b ≡ false → cond b x y ≡ y
-passed true x y e = absurd cc
-passed false x y e = refl
 
 narrow_byte : (width b : ℕ) → RepeatsSign width b → within width b ≡ ok (last_value b, 1)
 narrow_byte width b sign =
@@ -161,18 +133,18 @@ troubles width [] bad = (λ e. let same : bad ≡ Cut = cc in same, λ e. ap (λ
 troubles width (b ∷ bytes) bad = (
   λ e. elim (chosen (nat_lt 7 width) (on width b bytes) (last width b) (Err bad) e) [
     | inl wide ↦ elim (chosen (nat_lt b 128) (Ok (last_value b, 1)) (with_low_signed (b - 128) (read_signed (width - 7) bytes)) (Err bad) wide.1) [
-      | inl lt ↦ absurd (ok_is_no_err bad (last_value b, 1) lt.1)
+      | inl lt ↦ absurd (ok_not_err (last_value b, 1) bad lt.1)
       | inr ge ↦ inl (ltb-true 7 width wide.0, ltb-false b 128 ge.0, (troubles (width - 7) bytes bad).0 (part_err (b - 128) (read_signed (width - 7) bytes) bad ge.1))
     ]
     | inr narrow ↦ elim (chosen (nat_lt b 128) (within width b) (Err Long) (Err bad) narrow.1) [
       | inl lt ↦ elim (chosen (nat_lt b (half width)) (Ok (last_value b, 1)) (above width b) (Err bad) lt.1) [
-        | inl small ↦ absurd (ok_is_no_err bad (last_value b, 1) small.1)
+        | inl small ↦ absurd (ok_not_err (last_value b, 1) bad small.1)
         | inr big ↦ elim (chosen (nat_le 128 (b + half width)) (Ok (last_value b, 1)) (Err Range) (Err bad) big.1) [
-          | inl high ↦ absurd (ok_is_no_err bad (last_value b, 1) high.1)
-          | inr low ↦ inr (inr (ltb-false 7 width narrow.0, ltb-true b 128 lt.0, ltb-false b (half width) big.0, leb-false 128 (b + half width) low.0, err_is bad Range low.1))
+          | inl high ↦ absurd (ok_not_err (last_value b, 1) bad high.1)
+          | inr low ↦ inr (inr (ltb-false 7 width narrow.0, ltb-true b 128 lt.0, ltb-false b (half width) big.0, leb-false 128 (b + half width) low.0, sym (err_same Range bad low.1)))
         ]
       ]
-      | inr ge ↦ inr (inl (ltb-false 7 width narrow.0, ltb-false b 128 ge.0, err_is bad Long ge.1))
+      | inr ge ↦ inr (inl (ltb-false 7 width narrow.0, ltb-false b 128 ge.0, sym (err_same Long bad ge.1)))
     ]
   ],
   λ t. elim t [
@@ -186,28 +158,12 @@ troubles width (b ∷ bytes) bad = (
 
 -- ---- the same of bytes that begin at a place
 
-placed_ok : (at : ℕ) (r : Read) (x : ℤ × ℕ) → ok x ≡ placed at r → (y : ℤ × ℕ) × (r ≡ Ok y) × (x.0 ≡ y.0) × (x.1 ≡ at + y.1)
-placed_ok at (Ok y) x e = let same : x ≡ (y.0, at + y.1) = cc in (y, refl, ap (λ (p : ℤ × ℕ). p.0) same, ap (λ (p : ℤ × ℕ). p.1) same)
-placed_ok at (Err bad) x e = absurd cc
-
-placed_err : (at : ℕ) (r : Read) (bad : LebBad) → placed at r ≡ Err bad → r ≡ Err bad
-placed_err at (Ok y) bad e = absurd cc
-placed_err at (Err other) bad e = cc
-
 pub spelled_at : (width at : ℕ) (bytes : List ℕ) (r : Read) → r ≡ placed at (read_signed width bytes) → IfOk r (λ x. ((text rest : List ℕ) × (bytes ≡ text ++ rest) × (x.1 ≡ at + length text) × SpellsSigned width text x.0))
-spelled_at width at bytes (Err bad) e = tt
-spelled_at width at bytes (Ok x) e =
-    let there = placed_ok at (read_signed width bytes) x e in
-    let found = takes width bytes there.0 there.1 in
-    let P : ℤ → Type 0 = λ z. SpellsSigned width found.text z in
-    (found.text, found.rest, found.parts, omega (arith, there.3, found.long), subst P (sym there.2) found.spelled)
+spelled_at width at bytes r e = front_at (λ text z. SpellsSigned width text z) at bytes (read_signed width bytes) r (takes width bytes) e
 
 pub only_at : (width at : ℕ) (bytes : List ℕ) (r : Read) → r ≡ placed at (read_signed width bytes) → (text rest : List ℕ) (z : ℤ) → bytes ≡ text ++ rest → SpellsSigned width text z → r ≡ Ok (z, at + length text)
 only_at width at bytes r e text rest z parts spelled =
     e ∙ ap (λ (l : List ℕ). placed at (read_signed width l)) parts ∙ ap (placed at) (again width text rest z spelled)
 
 pub trouble_at : (width at : ℕ) (bytes : List ℕ) (r : Read) → r ≡ placed at (read_signed width bytes) → (bad : LebBad) → (r ≡ Err bad) ↔ SignedTrouble width bytes bad
-trouble_at width at bytes r e bad = (
-  λ h. (troubles width bytes bad).0 (placed_err at (read_signed width bytes) bad (sym e ∙ h)),
-  λ t. e ∙ ap (placed at) ((troubles width bytes bad).1 t),
-)
+trouble_at width at bytes r e = told_at (SignedTrouble width bytes) at (read_signed width bytes) r (troubles width bytes) e

@@ -7,6 +7,9 @@ use Rattle.std.proofs.Math.Pow.{pow_mono}
 use Rattle.owi_base.specs.declared.leb.LebBad.{LebBad}
 use Rattle.owi_base.specs.declared.leb.LebBad.TheVariants.{Cut, Long, Range}
 use Rattle.owi_base.specs.Leb.{SpellsUnsigned, UnsignedTrouble}
+use Rattle.owi_base.proofs.Results.{ok_not_err, err_not_ok, err_same}
+use Rattle.owi_base.proofs.LebReadings.{Front, front_one, front_more, front_at, told_at}
+use Rattle.owi_base.proofs.Choices.{chosen}
 use Rattle.owi_base.specs.LebReading.{read_unsigned, with_low, placed}
 
 abbrev Read : Type 0
@@ -31,10 +34,6 @@ high_fits width high low wide le lt small =
 
 -- ---- the four ways to go on from a byte
 
-pub chosen : {X : Type 0} (b : Bool) (x y z : X) → cond b x y ≡ z → ((b ≡ true) × (x ≡ z)) ⊎ ((b ≡ false) × (y ≡ z))
-chosen true x y z e = inl (refl, e)
-chosen false x y z e = inr (refl, e)
-
 abbrev on : (width b : ℕ) (bytes : List ℕ) → Read
 on width b bytes = cond (nat_lt b 128) (Ok (b, 1)) (with_low (b - 128) (read_unsigned (width - 7) bytes))
 
@@ -56,23 +55,10 @@ ok x = Ok x
 abbrev err : LebBad → Read
 err bad = Err bad
 
-err_is_no_ok : (bad : LebBad) (x : ℕ × ℕ) → err bad ≡ ok x → ⊥
-err_is_no_ok bad x e = cc
-
-ok_is_no_err : (bad : LebBad) (x : ℕ × ℕ) → ok x ≡ err bad → ⊥
-ok_is_no_err bad x e = cc
-
-err_is : (bad other : LebBad) → err other ≡ err bad → bad ≡ other
-err_is bad other e = cc
-
 -- ---- what is read is spelled so
 
-pub record Takes (width : ℕ) (bytes : List ℕ) (n k : ℕ) : Type 0 where
-  pub text : List ℕ
-  pub rest : List ℕ
-  pub parts : bytes ≡ text ++ rest
-  pub long : k ≡ length text
-  pub spelled : SpellsUnsigned width text n
+abbrev pub Takes : (width : ℕ) (bytes : List ℕ) (n : ℕ) (k : ℕ) → Type 0
+Takes width bytes n k = Front (λ text n. SpellsUnsigned width text n) bytes n k
 
 -- a byte that goes on stands before a spelling
 pub spelled_more : (width b high : ℕ) (text : List ℕ) → 7 < width → 128 ≤ b → SpellsUnsigned (width - 7) text high → SpellsUnsigned width (b ∷ text) (b - 128 + 128 * high)
@@ -80,20 +66,11 @@ spelled_more width b high [] wide le spelled = absurd spelled
 spelled_more width b high (c ∷ text) wide le spelled = (wide, le, high, omega arith, spelled)
 
 takes_one : (width b : ℕ) (bytes : List ℕ) (x : ℕ × ℕ) → b < 128 → b < 2 ^ width → ok (b, 1) ≡ ok x → Takes width (b ∷ bytes) x.0 x.1
-takes_one width b bytes x lt small e =
-    let same : x ≡ (b, 1) = cc in
-    record { text = b ∷ []; rest = bytes; parts = refl; long = ap (λ (p : ℕ × ℕ). p.1) same; spelled = (lt, small, ap (λ (p : ℕ × ℕ). p.0) same) }
+takes_one width b bytes x lt small e = front_one (λ text n. SpellsUnsigned width text n) b bytes b x (lt, small, refl) e
 
 takes_more : (width b : ℕ) (bytes : List ℕ) (x y : ℕ × ℕ) → 7 < width → 128 ≤ b → Takes (width - 7) bytes y.0 y.1 → x.0 ≡ b - 128 + 128 * y.0 → x.1 ≡ 1 + y.1 → Takes width (b ∷ bytes) x.0 x.1
 takes_more width b bytes x y wide le others number count =
-    let P : ℕ → Type 0 = λ n. SpellsUnsigned width (b ∷ others.text) n in
-    record {
-      text = b ∷ others.text;
-      rest = others.rest;
-      parts = ap (λ (l : List ℕ). b ∷ l) others.parts;
-      long = omega (arith, others.long);
-      spelled = subst P (sym number) (spelled_more width b y.0 others.text wide le others.spelled);
-    }
+    front_more (λ text n. SpellsUnsigned width text n) (λ text n. SpellsUnsigned (width - 7) text n) b bytes x y (b - 128 + 128 * y.0) (λ text s. spelled_more width b y.0 text wide le s) others number count
 
 pub takes : (width : ℕ) (bytes : List ℕ) (x : ℕ × ℕ) → read_unsigned width bytes ≡ Ok x → Takes width bytes x.0 x.1
 takes width [] x e = absurd cc
@@ -109,9 +86,9 @@ takes width (b ∷ bytes) x e =
       | inr narrow ↦ elim (chosen (nat_lt b 128) (cond (nat_lt b (2 ^ width)) (Ok (b, 1)) (Err Range)) (Err Long) (Ok x) narrow.1) [
         | inl lt ↦ elim (chosen (nat_lt b (2 ^ width)) (Ok (b, 1)) (Err Range) (Ok x) lt.1) [
           | inl small ↦ takes_one width b bytes x (ltb-true b 128 lt.0) (ltb-true b (2 ^ width) small.0) small.1
-          | inr big ↦ absurd (err_is_no_ok Range x big.1)
+          | inr big ↦ absurd (err_not_ok x Range big.1)
         ]
-        | inr ge ↦ absurd (err_is_no_ok Long x ge.1)
+        | inr ge ↦ absurd (err_not_ok x Long ge.1)
       ]
     ]
 
@@ -145,15 +122,15 @@ troubles width [] bad = (λ e. let same : bad ≡ Cut = cc in same, λ e. ap (λ
 troubles width (b ∷ bytes) bad = (
   λ e. elim (chosen (nat_lt 7 width) (on width b bytes) (last width b) (Err bad) e) [
     | inl wide ↦ elim (chosen (nat_lt b 128) (Ok (b, 1)) (with_low (b - 128) (read_unsigned (width - 7) bytes)) (Err bad) wide.1) [
-      | inl lt ↦ absurd (ok_is_no_err bad (b, 1) lt.1)
+      | inl lt ↦ absurd (ok_not_err (b, 1) bad lt.1)
       | inr ge ↦ inl (ltb-true 7 width wide.0, ltb-false b 128 ge.0, (troubles (width - 7) bytes bad).0 (part_err (b - 128) (read_unsigned (width - 7) bytes) bad ge.1))
     ]
     | inr narrow ↦ elim (chosen (nat_lt b 128) (cond (nat_lt b (2 ^ width)) (Ok (b, 1)) (Err Range)) (Err Long) (Err bad) narrow.1) [
       | inl lt ↦ elim (chosen (nat_lt b (2 ^ width)) (Ok (b, 1)) (Err Range) (Err bad) lt.1) [
-        | inl small ↦ absurd (ok_is_no_err bad (b, 1) small.1)
-        | inr big ↦ inr (inr (ltb-false 7 width narrow.0, ltb-true b 128 lt.0, ltb-false b (2 ^ width) big.0, err_is bad Range big.1))
+        | inl small ↦ absurd (ok_not_err (b, 1) bad small.1)
+        | inr big ↦ inr (inr (ltb-false 7 width narrow.0, ltb-true b 128 lt.0, ltb-false b (2 ^ width) big.0, sym (err_same Range bad big.1)))
       ]
-      | inr ge ↦ inr (inl (ltb-false 7 width narrow.0, ltb-false b 128 ge.0, err_is bad Long ge.1))
+      | inr ge ↦ inr (inl (ltb-false 7 width narrow.0, ltb-false b 128 ge.0, sym (err_same Long bad ge.1)))
     ]
   ],
   λ t. elim t [
@@ -167,28 +144,12 @@ troubles width (b ∷ bytes) bad = (
 
 -- ---- the same of bytes that begin at a place
 
-placed_ok : (at : ℕ) (r : Read) (x : ℕ × ℕ) → ok x ≡ placed at r → (y : ℕ × ℕ) × (r ≡ Ok y) × (x.0 ≡ y.0) × (x.1 ≡ at + y.1)
-placed_ok at (Ok y) x e = let same : x ≡ (y.0, at + y.1) = cc in (y, refl, ap (λ (p : ℕ × ℕ). p.0) same, ap (λ (p : ℕ × ℕ). p.1) same)
-placed_ok at (Err bad) x e = absurd cc
-
-placed_err : (at : ℕ) (r : Read) (bad : LebBad) → placed at r ≡ Err bad → r ≡ Err bad
-placed_err at (Ok y) bad e = absurd cc
-placed_err at (Err other) bad e = cc
-
 pub spelled_at : (width at : ℕ) (bytes : List ℕ) (r : Read) → r ≡ placed at (read_unsigned width bytes) → IfOk r (λ x. ((text rest : List ℕ) × (bytes ≡ text ++ rest) × (x.1 ≡ at + length text) × SpellsUnsigned width text x.0))
-spelled_at width at bytes (Err bad) e = tt
-spelled_at width at bytes (Ok x) e =
-    let there = placed_ok at (read_unsigned width bytes) x e in
-    let found = takes width bytes there.0 there.1 in
-    let P : ℕ → Type 0 = λ n. SpellsUnsigned width found.text n in
-    (found.text, found.rest, found.parts, omega (arith, there.3, found.long), subst P (sym there.2) found.spelled)
+spelled_at width at bytes r e = front_at (λ text n. SpellsUnsigned width text n) at bytes (read_unsigned width bytes) r (takes width bytes) e
 
 pub only_at : (width at : ℕ) (bytes : List ℕ) (r : Read) → r ≡ placed at (read_unsigned width bytes) → (text rest : List ℕ) (n : ℕ) → bytes ≡ text ++ rest → SpellsUnsigned width text n → r ≡ Ok (n, at + length text)
 only_at width at bytes r e text rest n parts spelled =
     e ∙ ap (λ (l : List ℕ). placed at (read_unsigned width l)) parts ∙ ap (placed at) (again width text rest n spelled)
 
 pub trouble_at : (width at : ℕ) (bytes : List ℕ) (r : Read) → r ≡ placed at (read_unsigned width bytes) → (bad : LebBad) → (r ≡ Err bad) ↔ UnsignedTrouble width bytes bad
-trouble_at width at bytes r e bad = (
-  λ h. (troubles width bytes bad).0 (placed_err at (read_unsigned width bytes) bad (sym e ∙ h)),
-  λ t. e ∙ ap (placed at) ((troubles width bytes bad).1 t),
-)
+trouble_at width at bytes r e = told_at (UnsignedTrouble width bytes) at (read_unsigned width bytes) r (troubles width bytes) e

@@ -1,4 +1,3 @@
-pub mod Forms
 pub mod Leb
 pub mod LebReading
 pub mod Outside

@@ -2,8 +2,6 @@
 use thiserror::Error;
 
 pub mod signed;
-#[cfg(test)]
-mod tests;
 pub mod unsigned;
 
 /// Why bytes begin with no number.

@@ -25,6 +25,3 @@ pub use memory::{MemSink, MemSource};
 pub use outside::{Failed, Sink, Source};
 pub use system::{InSource, OutSink};
 pub use transfer::{ReadAll, WriteFault, read_all, write_all};
-
-#[cfg(test)]
-mod tests;

@@ -1,5 +1,5 @@
 // All bytes of a source, and all bytes to a sink.
-ghost use Rattle.std.specs.Prelude.{◌≡◌, ◌+◌, ◌<◌, ◌≤◌, [], length, take, vec_len, IfOk, OnOk, IfErr, IfSome, OnSome, Err, Some};
+ghost use Rattle.std.specs.Prelude.{◌≡◌, ◌≢◌, ◌+◌, ◌<◌, ◌≤◌, [], length, take, vec_len, IfOk, OnOk, IfErr, IfSome, OnSome, Err, Some};
 ghost use Rattle.std.specs.Io.KnownBytes.{Appends};
 ghost use Rattle.owi_base.specs.Outside.{Gave, GaveAtMost, Rose};
 
@@ -27,8 +27,8 @@ pub struct WriteFault {
     pub out: u64,
 }
 
-/// All bytes of the source, read to its end, where there are at most `limit`. It asks the source for one byte past the
-/// limit at most. Where it refuses, the bytes that the source has given by then are lost.
+/// All bytes of the source, read to its end, where there are at most `limit`. It takes a byte past the limit only where it
+/// answers that there is one. Where it refuses, the bytes that the source has given by then are lost.
 pub fn read_all<S: Source>(alloc: Global, source: &mut S, limit: u64) -> Result<Vec<u8>, ReadAll>
     ensures ok { IfOk result (λ bytes. IfSome (S.left source.old) (λ left. bytes.items ≡ left)) }
     ensures ended { OnOk result (OnSome (S.left source.old) (S.left source.new ≡ Some [])) }
@@ -40,6 +40,7 @@ pub fn read_all<S: Source>(alloc: Global, source: &mut S, limit: u64) -> Result<
     // Whatever the answer is, this is what the source has given.
     ensures taken { GaveAtMost (limit + 1) (S.left source.old) (S.left source.new) }
     ensures past { result ≡ Err ReadAll.TooLong → Gave (limit + 1) (S.left source.old) (S.left source.new) }
+    ensures no_further { result ≢ Err ReadAll.TooLong → GaveAtMost limit (S.left source.old) (S.left source.new) }
     ensures never_falls { S.faults source.old ≤ S.faults source.new }
 {
     let mut bytes = Vec::new(alloc);

@@ -14,8 +14,8 @@ use Rattle.wasm_soundness.specs.Laws.{NamesFunction}
 use Rattle.wasm_run.specs.Bounded.{CanRun}
 use Rattle.owi_cmd.specs.Report.{is_found}
 use Rattle.owi_cmd.specs.Rows.{status_of, only_row}
-use Rattle.owi_cmd.specs.Runs.{status_of_run}
-use Rattle.owi_cmd.specs.Sources.{most_bytes, Explores, Runs, AnswersShort, AnswersSource, IsOfSource}
+use Rattle.owi_cmd.specs.RunText.{status_of_run}
+use Rattle.owi_cmd.specs.Sources.{most_bytes, Explores, RunsOnce, AnswersShort, AnswersSource, IsOfSource}
 use Rattle.owi_cmd.specs.Answer.{Answers}
 use Rattle.owi_cmd.specs.Words.{IsArgument, IsOption, SpellsExplore, SpellsRun, Spells, IsSpelled}
 use Rattle.owi_cmd.specs.declared.report.Bounds.{Bounds}
@@ -62,7 +62,7 @@ no_other : (status : Status) (outcome : Outcome) → status ≡ status_of_run ou
 no_other status outcome is not_found not_done = elim (of_run outcome) [ inl found ↦ not_found (is ∙ found) | inr done ↦ not_done (is ∙ done) ]
 
 -- a run is an answer
-pub ran : (name : List ℕ) (args : List Value) (options : RunOptions) (source : List ℕ) (status : Status) (bytes : List ℕ) → Runs name args options source status bytes → AnswersShort (Run name args options) source status bytes
+pub ran : (name : List ℕ) (args : List Value) (options : RunOptions) (source : List ℕ) (status : Status) (bytes : List ℕ) → RunsOnce name args options source status bytes → AnswersShort (Run name args options) source status bytes
 ran name args options source Limit bytes e = absurd (no_other Limit e.ran.outcome e.counted (λ i. cc) (λ i. cc))
 ran name args options source Malformed bytes e = absurd (no_other Malformed e.ran.outcome e.counted (λ i. cc) (λ i. cc))
 ran name args options source Outside bytes e = absurd (no_other Outside e.ran.outcome e.counted (λ i. cc) (λ i. cc))

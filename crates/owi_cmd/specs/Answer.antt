@@ -8,20 +8,20 @@ use Rattle.owi_cmd.specs.declared.status.Status.{Status}
 use Rattle.owi_cmd.specs.declared.status.Status.TheVariants.{Done, Found, Usage, Malformed, Outside, Limit, Invalid, Unlinked, Entry, ReadFault, WriteFault, NoMemory, NotYet}
 
 -- The number of a status, with which the program ends.
-abbrev pub number_of : Status → ℕ
-number_of Done = 0
-number_of Found = 1
-number_of Usage = 2
-number_of Malformed = 3
-number_of Outside = 4
-number_of Limit = 5
-number_of Invalid = 6
-number_of Unlinked = 7
-number_of Entry = 8
-number_of ReadFault = 9
-number_of WriteFault = 10
-number_of NoMemory = 11
-number_of NotYet = 12
+abbrev pub status_number : Status → ℕ
+status_number Done = 0
+status_number Found = 1
+status_number Usage = 2
+status_number Malformed = 3
+status_number Outside = 4
+status_number Limit = 5
+status_number Invalid = 6
+status_number Unlinked = 7
+status_number Entry = 8
+status_number ReadFault = 9
+status_number WriteFault = 10
+status_number NoMemory = 11
+status_number NotYet = 12
 
 -- the line of a refusal that comes before the source is read as a module
 abbrev pub fixed_line : Status → List ℕ

@@ -4,4 +4,4 @@ pub mod Answer
 pub mod Faults
 pub mod Sources
 pub mod Rows
-pub mod Runs
+pub mod RunText

@@ -18,7 +18,7 @@ use Rattle.wasm_write.specs.Modules.{shortest, sections, first_long}
 use Rattle.wasm_run.specs.Bounded.{RunGives}
 use Rattle.owi_cmd.specs.Report.{line, name_text, report_of}
 use Rattle.owi_cmd.specs.Rows.{only_row, status_of}
-use Rattle.owi_cmd.specs.Runs.{run_text, status_of_run}
+use Rattle.owi_cmd.specs.RunText.{run_text, status_of_run}
 use Rattle.owi_cmd.specs.Faults.{fault_status, fault_text, why_text, large_text}
 use Rattle.owi_cmd.specs.declared.report.Bounds.{Bounds}
 use Rattle.owi_cmd.specs.declared.words.Command.{Command}
@@ -135,7 +135,7 @@ pub record Explores (name : List ℕ) (args : List Value) (bounds : Bounds) (sou
   pub counted : status ≡ status_of (only_row ran.outcome ∷ [])
 
 -- bytes tell the bounded run of the function that the module exports by this name.
-pub record Runs (name : List ℕ) (args : List Value) (options : RunOptions) (source : List ℕ) (status : Status) (bytes : List ℕ) : Type 0 where
+pub record RunsOnce (name : List ℕ) (args : List Value) (options : RunOptions) (source : List ℕ) (status : Status) (bytes : List ℕ) : Type 0 where
   pub spelled : Module
   pub is : SpellsReady source spelled
   pub function : ℕ
@@ -184,7 +184,7 @@ PassesOutput Validate source bytes = ⊥
 -- the command is carried out on the module of the source
 abbrev pub CarriesOut : Command → List ℕ → Status → List ℕ → Type 0
 CarriesOut (Explore name args bounds) source status bytes = Explores name args bounds source status bytes
-CarriesOut (Run name args options) source status bytes = Runs name args options source status bytes
+CarriesOut (Run name args options) source status bytes = RunsOnce name args options source status bytes
 CarriesOut ConvertBinary source Done bytes = Converts source bytes
 CarriesOut ConvertBinary source status bytes = ⊥
 CarriesOut Validate source Done bytes = Validates source bytes

@@ -2,7 +2,7 @@
 //
 // `owi_plain` is the top call. Its contract says of every status why it comes and which bytes are written with it, what is
 // left of the source, and what is written where the sink fails. `specs/Words.antt` says which words spell a command,
-// `specs/Answer.antt` what is answered, `specs/Report.antt` the bytes of a report, `specs/Runs.antt` those that tell one run.
+// `specs/Answer.antt` what is answered, `specs/Report.antt` the bytes of a report, `specs/RunText.antt` those that tell one run.
 #![tactic(auto)]
 
 mod convert;

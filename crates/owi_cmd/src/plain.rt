@@ -1,7 +1,7 @@
 // The top call.
-ghost use Rattle.std.specs.Prelude.{◌≡◌, ◌≢◌, [], List, ℕ, OnSome, Some, MatchResult, IfOk, ◌≤◌, length, map, take};
+ghost use Rattle.std.specs.Prelude.{◌≡◌, ◌≢◌, ◌+◌, [], List, ℕ, OnSome, IfSome, Some, MatchResult, IfOk, IfErr, ◌<◌, ◌≤◌, length, map, take};
 ghost use Rattle.std.specs.Io.KnownBytes.{Appends};
-ghost use Rattle.owi_base.specs.Outside.{Rose};
+ghost use Rattle.owi_base.specs.Outside.{GaveAtMost, Rose};
 ghost use Rattle.owi_cmd.specs.Words.{Spells, IsSpelled};
 ghost use Rattle.owi_cmd.specs.Answer.{Answers, HasReadAll, fixed_line};
 ghost use Rattle.owi_cmd.specs.Sources.{AnswersShort, AnswersSource, IsOfSource, most_bytes};
@@ -43,9 +43,12 @@ pub fn owi_plain<S: Source, K: Sink>(
         × Answers (map (λ w. w.now) words.now) (S.left source.old) (Rose (S.faults source.old) (S.faults source.new)) status bytes
         × Appends (K.written out.old) (K.written out.new) (take count bytes)) }
 
-    // Where the words spell no command, nothing is read; with a status from the module on, all is read.
+    // Where the words spell no command, nothing is read; with a status from the module on, all is read, and with that of a
+    // limit too, unless it is the limit of the length. At most one byte past that limit is taken.
     ensures unread { ((command : OneCommand) → ¬ Spells (map (λ w. w.now) words.now) command) → source.new ≡ source.old }
     ensures drained { HasReadAll result → OnSome (S.left source.old) (S.left source.new ≡ Some []) }
+    ensures limited { result ≡ Status.Limit → IfSome (S.left source.old) (λ left. length left ≤ most_bytes → S.left source.new ≡ Some []) }
+    ensures taken { GaveAtMost (most_bytes + 1) (S.left source.old) (S.left source.new) }
 {
     match answer(alloc, words, source) {
         Ok(written) => match write_all(out, written.bytes.as_slice()) {
@@ -66,8 +69,10 @@ fn answer<S: Source>(alloc: Global, words: &[&str], source: &mut S) -> Result<Wr
         (λ status. Answers (map (λ w. w.now) words.now) (S.left source.old) (Rose (S.faults source.old) (S.faults source.new)) status (fixed_line status)) }
     ensures unread { ((command : OneCommand) → ¬ Spells (map (λ w. w.now) words.now) command) → source.new ≡ source.old }
     ensures drained { MatchResult result
-        (λ w. (w.status ≢ Status.WriteFault) × (HasReadAll w.status → OnSome (S.left source.old) (S.left source.new ≡ Some [])))
+        (λ w. (w.status ≢ Status.WriteFault) × OnSome (S.left source.old) (S.left source.new ≡ Some []))
         (λ status. (status ≢ Status.WriteFault) × ¬ HasReadAll status) }
+    ensures limited { IfErr result (λ status. status ≡ Status.Limit → IfSome (S.left source.old) (λ left. most_bytes < length left)) }
+    ensures taken { GaveAtMost (most_bytes + 1) (S.left source.old) (S.left source.new) }
 {
     let Some(command) = read_words(alloc, words)? else {
         return Err(Status::Usage);

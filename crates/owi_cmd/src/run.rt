@@ -2,7 +2,7 @@
 ghost use Rattle.std.specs.Prelude.{◌≡◌, ◌++◌, IfOk, OnOk, codes, map, string_bytes};
 ghost use Rattle.wasm_image.specs.Entries.{IsEntry};
 ghost use Rattle.owi_cmd.specs.Report.{line, draw_text, list_text};
-ghost use Rattle.owi_cmd.specs.Runs.{run_text as text_of_run, run_head_text, export_text, args_text, steps_text, outcome_text, status_of_run};
+ghost use Rattle.owi_cmd.specs.RunText.{run_text as text_of_run, run_head_text, export_text, args_text, steps_text, outcome_text, status_of_run};
 ghost use Rattle.owi_cmd.specs.Sources.{SpellsReady, AnswersShort, IsOfSource};
 ghost use Rattle.owi_cmd.specs.Words.{IsSpelled};
 ghost use Rattle.owi_cmd.specs.declared.words.Command.TheVariants.{Run};

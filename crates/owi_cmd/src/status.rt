@@ -35,11 +35,11 @@ pub enum Status {
 }
 
 impl Status {
-    ghost use Rattle.owi_cmd.specs.Answer.{number_of};
+    ghost use Rattle.owi_cmd.specs.Answer.{status_number};
 
     /// The number of the status, from 0 to 12, with which the program ends.
     pub fn number(self) -> u8
-        ensures { result ≡ number_of self }
+        ensures { result ≡ status_number self }
     {
         self as u8
     }

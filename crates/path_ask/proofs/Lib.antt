@@ -1,3 +1,3 @@
 pub mod ReadingLemmas
 pub mod VerdictLemmas
-pub mod AnswerLemmas
+pub mod VerdictLaws

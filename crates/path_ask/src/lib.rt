@@ -8,8 +8,8 @@
 
 pub mod crossing;
 mod inputs;
-pub mod laws;
 pub mod questions;
+pub mod verdict_laws;
 pub mod verdicts;
 
 pub use questions::{least_value, other_side};

@@ -14,4 +14,6 @@ pub mod Least
 pub mod Ends
 pub mod Levels
 pub mod Turns
+pub mod Deciding
+pub mod Latest
 mod Examples

@@ -5,3 +5,4 @@ pub mod Alike
 pub mod Machine
 pub mod Orders
 pub mod Rising
+pub mod Latest

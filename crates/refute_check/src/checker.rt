@@ -3,9 +3,6 @@ ghost use Rattle.std.specs.Prelude.{◌≡◌, ◌⊎◌, ℕ, Err, IfOk, OnOk, 
 ghost use Rattle.refute_check.specs.Clauses.{IsUnsatisfiable};
 ghost use Rattle.refute_check.specs.Logs.{IsAccepted, IsRefused};
 
-#[cfg(test)]
-mod tests;
-
 use crate::formulas::{Clause, Cnf};
 use crate::items::Items;
 use crate::logs::{Chain, Log};

@@ -1,9 +1,6 @@
 // A list that contracts see as the list of its items.
 ghost use Rattle.std.specs.Prelude.{◌≡◌, ◌↔◌, IsTrue, ◌+◌, ◌<◌, [], ◌∷◌, ◌++◌, length, OnOk, OnErr, IfOk, slice_get, Some};
 
-#[cfg(test)]
-mod tests;
-
 use std::alloc::AllocError;
 use std::marker::Model;
 

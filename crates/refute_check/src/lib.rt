@@ -17,5 +17,5 @@ mod resolution;
 pub use checker::{AcceptBad, accept};
 pub use formulas::{Clause, Cnf};
 pub use items::Items;
-pub use logs::{Chain, Log};
+pub use logs::{Chain, Log, copy_log};
 pub use refutation::Refutation;

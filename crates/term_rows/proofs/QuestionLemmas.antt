@@ -8,10 +8,9 @@ use Rattle.bv_terms.specs.declared.words.Word.TheVariants.{Num, Term as Numbered
 use Rattle.bv_terms.specs.declared.words.Form.{Form}
 use Rattle.bv_terms.specs.declared.words.Form.TheVariants.{Symbol as SymbolForm, Un, Bin, Choose as ChooseForm, Byte as ByteForm, Join as JoinForm}
 use Rattle.bv_terms.specs.declared.words.Cond.{Cond}
-use Rattle.bv_terms.specs.Terms.{Term, Number, Symbol, Unary, Binary, Choose, Byte, Join, bytes_from, is_number, width_of, HasWidth}
+use Rattle.bv_terms.specs.Terms.{Term, Number, Symbol, Unary, Binary, Choose, Byte, Join, bytes_from, is_number, width_of, HasWidth, HasSymbols, HaveSymbols as HaveSymbolsOf}
 use Rattle.bv_terms.specs.Graphs.{TermGraph, IsGraph, Holds, term_of, form_term, terms_of}
 use Rattle.bv_terms.proofs.GraphLemmas.{held}
-use Rattle.bit_blast.specs.Formulas.{HasSymbols, HaveSymbols as HaveSymbolsOf}
 use Rattle.bit_blast.specs.Meanings.{IsProper, AreProper, CanBeLeast}
 use Rattle.bit_blast.specs.Walks.{term_at, conditions_of, first_of}
 use Rattle.term_rows.specs.declared.questions.Question.{Question}

@@ -4,7 +4,8 @@ from itertools import product
 
 from circuits import formula
 from machine import solve
-from operators import BINARY, UNARY, binary, unary
+from rules import made
+from values import value
 
 MOST = (1 << 64) - 1
 
@@ -24,24 +25,6 @@ def fingerprint(clauses, order):
     for n in order:
         total = mixed(total, n)
     return mixed(total, 0)
-
-
-def value(term, numbers):
-    """The value of a term at an input."""
-    kind = term[0]
-    if kind == "num":
-        return term[1]
-    if kind == "sym":
-        return numbers[term[1]]
-    if kind == "un":
-        return unary(term[1], value(term[2], numbers))
-    if kind == "bin":
-        return binary(term[1], value(term[2], numbers), value(term[3], numbers))
-    if kind == "choose":
-        return value(term[3] if value(term[2], numbers) else term[4], numbers)
-    if kind == "byte":
-        return value(term[1], numbers) >> 8 * term[2] & 255
-    return sum(value(byte, numbers) << 8 * place for place, byte in enumerate(term[2]))
 
 
 class Rows:
@@ -65,13 +48,13 @@ class Rows:
         self.lines.append(line)
         self.answers.append(f"{answer}: {line}")
 
-    # ---- words; the places of words are returned. No making rule fits the terms that are made here, but for numbers.
+    # ---- words; the places of words are returned
 
-    def add(self, line, term):
+    def add(self, line, plain):
+        term = made(plain)
         if term[0] == "num":
             answer = f"number {term[1]}"
         else:
-            assert term[0] == "sym" or any(word[0] != "num" for word in below(term))
             answer = f"term {self.numbers.setdefault(term, 256 + len(self.numbers))}"
         self.say(line, answer)
         self.words.append(term)
@@ -146,7 +129,3 @@ class Rows:
         self.say(f"ask {conflicts + 1} : {said}", "dropped")
         self.say(f"log {conflicts + 1} : {said}", f"chains {len(log)} steps {sum(len(steps) for _, steps in log)}")
         return variables, len(clauses), conflicts
-
-
-def below(term):
-    return [it for it in term[1:] if isinstance(it, tuple) and it and isinstance(it[0], str)] or list(term[2])

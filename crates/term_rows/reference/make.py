@@ -91,6 +91,16 @@ def formulas_of_several():
     rows.say(f"formula 32 64 : {v} : : {y}", "refused")
 
 
+def values_far_down():
+    rows.comment("values: a symbol added a million times to itself")
+    rows.reset()
+    rows.draw(64)
+    rows.say("chain 1000000 0x7c 0", f"term {256 + 1000000}")
+    rows.say("count", "terms 1000001")
+    rows.say("value 1000000 : 3", "value 3000003")
+    rows.say("value 1000000 :", "value 0")
+
+
 # ---------------------------------------------------------------- questions
 
 
@@ -196,6 +206,7 @@ def operators_at_edges(bits):
 def main():
     operators_on_symbols()
     formulas_of_several()
+    values_far_down()
     first_questions()
     operators_at_edges(32)
     operators_at_edges(64)

@@ -7,9 +7,8 @@ use Rattle.bv_terms.specs.declared.words.Word.{Word}
 use Rattle.bv_terms.specs.declared.words.Word.TheVariants.{Num, Term as Numbered}
 use Rattle.bv_terms.specs.declared.words.Form.{Form}
 use Rattle.bv_terms.specs.declared.words.Form.TheVariants.{Symbol as SymbolForm, Un, Bin, Choose as ChooseForm, Byte as ByteForm, Join as JoinForm}
-use Rattle.bv_terms.specs.Terms.{Number, HasWidth, width_of}
+use Rattle.bv_terms.specs.Terms.{Number, HasWidth, width_of, HasSymbols}
 use Rattle.bv_terms.specs.Graphs.{TermGraph, Holds, term_of, terms_of}
-use Rattle.bit_blast.specs.Formulas.{HasSymbols}
 use Rattle.bit_blast.specs.Meanings.{IsProper}
 use Rattle.bit_blast.specs.Walks.{term_at}
 use Rattle.term_rows.specs.declared.desk.Entry.{Entry}

@@ -85,6 +85,7 @@ fn node(
     match verb {
         "un" => un(desk, words),
         "again" => again(desk, words),
+        "chain" => chain(desk, words),
         "bin" => bin(desk, words),
         "choose32" => choose(desk, words, false),
         "choose64" => choose(desk, words, true),
@@ -168,6 +169,26 @@ fn again(desk: &mut Desk, words: &mut Words) -> Result<Option<Word>, AllocError>
     let mut last = None;
     for _turn in 0..count {
         last = desk.un(op, at)?;
+        at = desk.words().saturating_sub(1);
+    }
+    Ok(last)
+}
+
+// A binary operator so many times, on the word before and the word at a place.
+fn chain(desk: &mut Desk, words: &mut Words) -> Result<Option<Word>, AllocError> {
+    let Some(count) = words.number() else {
+        return Ok(None);
+    };
+    let Some(op) = words.opcode() else {
+        return Ok(None);
+    };
+    let Some(a) = words.number() else {
+        return Ok(None);
+    };
+    let mut at = a;
+    let mut last = None;
+    for _turn in 0..count {
+        last = desk.bin(op, at, a)?;
         at = desk.words().saturating_sub(1);
     }
     Ok(last)

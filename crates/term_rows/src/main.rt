@@ -4,7 +4,7 @@
 // places are counted from 0: `const32 N`, `const64 N`, `draw32`, `draw64`, `symbol32 K`, `symbol64 K`, `un OP A`, `bin OP A B`,
 // `choose32 C A B`, `choose64 C A B`, `byte A I`, `join32 A ..`, `join64 A ..`, where A, B and C are places and OP is an opcode, as
 // `0x6a`. It is answered by the word, or by `refused` where the operands don't fit, and then nothing is made. `again COUNT OP A`
-// is `un OP` that many times, one over the other. `value A : N ..` asks for the value of a word at an input, `form A` for the form
+// is `un OP` that many times, one over the other, and `chain COUNT OP A` is `bin OP` that many times, of the one before and A. `value A : N ..` asks for the value of a word at an input, `form A` for the form
 // of a term, `number A` for the number that a word is, `count` for the number of terms. `freeze` goes on with the second of the
 // two graphs, and `first` exchanges it with the first.
 //

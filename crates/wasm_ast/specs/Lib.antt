@@ -1,5 +1,6 @@
 pub mod Numbering
 pub mod Opcodes
+pub mod Ranges
 pub mod Sections
 pub mod Shape
 pub mod Straight

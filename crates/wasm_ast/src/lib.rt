@@ -15,6 +15,7 @@ pub mod lists;
 pub mod modules;
 pub mod numbering;
 pub mod opcodes;
+pub mod ranges;
 pub mod runs;
 pub mod sections;
 pub mod shape;

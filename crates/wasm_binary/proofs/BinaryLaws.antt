@@ -2,15 +2,15 @@
 use Rattle.std.proofs.Common.{◌≡◌, ◌≢◌, ℕ, zero, suc, ◌+◌, ◌-◌, ◌≤◌, ◌<◌, ◌⊎◌, inl, inr, List, [], ◌∷◌, ◌++◌, length, drop, Option, Some, None, Result, Ok, Err, refl, sym, ap, subst, ◌∙◌, append-nil, arith, length-append, length-drop}
 use Rattle.std.specs.Prelude.{◌==◌, nat_lt}
 use Rattle.std.proofs.lemmas.Bool.{lt-ltb, le-ltb, cases_lt, eqb-true, eqb-false, eq-eqb, ne_eqb}
-use Rattle.owi_base.specs.Forms.{Window, read_on}
-use Rattle.owi_base.proofs.FormLaws.{IsBelow, reads_between, read_on_ok}
-use Rattle.owi_base.proofs.UnsignedLaws.{chosen}
-use Rattle.owi_base.proofs.SignedReading.{taken, passed}
+use Rattle.grammar_forms.specs.Forms.{Window, read_on}
+use Rattle.grammar_forms.specs.Laws.{IsBelow}
+use Rattle.grammar_forms.proofs.FormLaws.{reads_between, read_on_ok}
 use Rattle.wasm_ast.specs.declared.modules.Module.{Module}
 use Rattle.wasm_binary.specs.Faults.{Fault, count}
 use Rattle.wasm_binary.specs.Modules.{Sections, no_sections, front, section, sections, front_and_sections, module_of, whole, HaveTheirCounts, IsBinary, CountFault, BinaryFault}
 use Rattle.wasm_binary.specs.Reading.{segments_counted, counted, next_of, read_sections, read_binary}
 use Rattle.wasm_binary.proofs.ModuleLaws.{section_lawful, section_has_bytes, front_lawful, front_and_sections_lawful}
+use Rattle.owi_base.proofs.Choices.{chosen, taken, passed}
 
 abbrev Answer : Type 0
 Answer = Result Module Fault

@@ -2,7 +2,7 @@
 use Rattle.std.proofs.Common.{◌≡◌, ◌<◌, ℕ, zero, suc, [], ◌∷◌, length, Result, Ok, Err, true, refl, ap, ◌∙◌, arith}
 use Rattle.std.specs.Str.{is_utf8, IsAscii}
 use Rattle.std.proofs.lemmas.Str.{IsUtf8-from_ascii, is_utf8-from_IsUtf8}
-use Rattle.owi_base.specs.Forms.{Window}
+use Rattle.grammar_forms.specs.Forms.{Window}
 use Rattle.wasm_ast.specs.declared.types.ValType.TheVariants.{I32}
 use Rattle.wasm_ast.specs.declared.instructions.Instr.TheVariants.{Const32, Num}
 use Rattle.wasm_ast.specs.declared.modules.Space.TheVariants as space

@@ -1,8 +1,9 @@
 -- Each form of the grammar is lawful: what is read is spelled, what is spelled is read, and likewise for trouble.
 use Rattle.std.proofs.Common.{ℕ, zero, suc, ◌+◌, length, Bool, true, false}
 use Rattle.std.specs.Prelude.{◌==◌}
-use Rattle.owi_base.specs.Forms.{any_byte, checked, many}
-use Rattle.owi_base.proofs.FormLaws.{IsLawful, IsIn, HasBytes, after, gives_lawful, any_byte_lawful, any_byte_has_bytes, unsigned_lawful, signed_lawful, checked_lawful, many_lawful, when_lawful, by_first_lawful, nested_lawful, nothing_below, then_lawful, fewer_left, then_has_bytes, checked_has_bytes, signed_has_bytes, in_itself, no_form_in, when_in, then_in}
+use Rattle.grammar_forms.specs.Forms.{any_byte, checked, many}
+use Rattle.grammar_forms.specs.Laws.{IsLawful, IsIn, HasBytes}
+use Rattle.grammar_forms.proofs.FormLaws.{after, gives_lawful, any_byte_lawful, any_byte_has_bytes, unsigned_lawful, signed_lawful, checked_lawful, many_lawful, when_lawful, by_first_lawful, nested_lawful, nothing_below, then_lawful, fewer_left, then_has_bytes, checked_has_bytes, signed_has_bytes, in_itself, no_form_in, when_in, then_in}
 use Rattle.wasm_ast.specs.Opcodes.{is_from, is_load, is_store}
 use Rattle.wasm_ast.specs.declared.instructions.Instr.{Instr}
 use Rattle.wasm_ast.specs.declared.instructions.Instr.TheVariants.{Load, Store, Block, Loop, If, TableInit, ElemDrop, TableCopy, TableGrow, TableSize, TableFill, MemoryInit, DataDrop, MemoryCopy, MemoryFill}

@@ -1,4 +1,11 @@
 pub mod BinaryLaws
 pub mod Examples
 pub mod GrammarLaws
+pub mod KindLaws
 pub mod ModuleLaws
+pub mod ShapeOfBodies
+pub mod ShapeOfExpressions
+pub mod ShapeOfInstructions
+pub mod ShapeOfLists
+pub mod ShapeOfLocals
+pub mod ShapeOfModules

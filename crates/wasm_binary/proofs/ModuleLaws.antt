@@ -1,13 +1,14 @@
 -- The forms of sections and of whole modules are lawful.
 use Rattle.std.proofs.Common.{ℕ, zero, suc, ◌+◌, ◌-◌, List, [], ◌∷◌, length, Bool, true}
 use Rattle.std.specs.Prelude.{◌==◌, ◌||◌, nat_lt, is_some}
-use Rattle.owi_base.specs.Forms.{any_byte, checked, when◌form◌else◌}
-use Rattle.owi_base.proofs.FormLaws.{IsLawful, HasBytes, after, gives_lawful, any_byte_lawful, any_byte_has_bytes, checked_lawful, measured_lawful, many_lawful, within_lawful, when_lawful, then_has_bytes, checked_has_bytes}
+use Rattle.grammar_forms.specs.Forms.{any_byte, checked, when◌form◌else◌}
+use Rattle.grammar_forms.specs.Laws.{IsLawful, HasBytes}
+use Rattle.grammar_forms.proofs.FormLaws.{after, gives_lawful, any_byte_lawful, any_byte_has_bytes, checked_lawful, measured_lawful, many_lawful, within_lawful, when_lawful, then_has_bytes, checked_has_bytes}
 use Rattle.wasm_binary.specs.Faults.{Fault, size}
 use Rattle.wasm_binary.specs.Values.{Grammar, u32, vec, name}
 use Rattle.wasm_binary.specs.Types.{below, func_type, limits, table_type}
 use Rattle.wasm_binary.specs.Locals.{few, group, groups, code_contents, code}
-use Rattle.wasm_binary.specs.Parts.{constant, import_kind, import, global, export, flag_below, active_on, active, elem_mode, elem_kind, func_item, elem, data_mode, segment}
+use Rattle.wasm_binary.specs.SectionEntries.{constant, import_kind, import, global, export, flag_below, active_on, active, elem_mode, elem_kind, func_item, elem, data_mode, segment}
 use Rattle.wasm_binary.specs.Modules.{Sections, no_sections, next_id, same_count, same_as_announced, custom, code_section, data_section, into, contents, sized_contents, section, fixed_byte, fixed_bytes, front, sections, front_and_sections}
 use Rattle.wasm_binary.proofs.GrammarLaws.{u32_lawful, tag_lawful, vec_lawful, name_lawful, bytes_lawful, ref_type_lawful, val_type_lawful, func_type_lawful, one_of_lawful, limits_lawful, table_type_lawful, global_type_lawful, expression_lawful}
 

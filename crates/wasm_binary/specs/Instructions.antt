@@ -3,7 +3,7 @@
 -- In the standard a control instruction holds the sequences inside it; here it names them by numbers (Numbering of
 -- wasm_ast), so a sequence is spelled beside the number that the next one inside it takes.
 use Rattle.std.specs.Prelude.{ℕ, zero, suc, ◌+◌, ◌^◌, ◌-◌, ℤ, pos, negsuc, List, [], ◌∷◌, ◌++◌, length, Bool, true, false, ◌==◌, ◌&&◌, ◌||◌, not, nat_lt, nat_le, if◌then◌else◌, Result, Ok, Err}
-use Rattle.owi_base.specs.Forms.{◌>>=◌, gives, any_byte, checked, nested, no_form, when◌form◌else◌}
+use Rattle.grammar_forms.specs.Forms.{◌>>=◌, gives, any_byte, checked, nested, no_form, when◌form◌else◌}
 use Rattle.wasm_ast.specs.Opcodes.{is_from, is_load, is_store, is_numeric}
 use Rattle.wasm_ast.specs.declared.instructions.Instr.{Instr}
 use Rattle.wasm_ast.specs.declared.instructions.Instr.TheVariants.{Unreachable, Nop, Block, Loop, If, Br, BrIf, BrTable, Return, Call, CallIndirect, RefNull, RefIsNull, RefFunc, Discard, Select, SelectTyped, LocalGet, LocalSet, LocalTee, GlobalGet, GlobalSet, TableGet, TableSet, TableInit, ElemDrop, TableCopy, TableGrow, TableSize, TableFill, Load, Store, MemorySize, MemoryGrow, MemoryInit, DataDrop, MemoryCopy, MemoryFill, Const32, Const64, Num}

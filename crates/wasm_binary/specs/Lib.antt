@@ -2,7 +2,7 @@ pub mod Faults
 pub mod Instructions
 pub mod Locals
 pub mod Modules
-pub mod Parts
+pub mod SectionEntries
 pub mod Reading
 pub mod Sum
 pub mod Types

@@ -1,6 +1,6 @@
 -- The code of a function in bytes (Binary Format, Modules: Code Section).
 use Rattle.std.specs.Prelude.{ℕ, zero, suc, ◌+◌, List, [], ◌∷◌, Bool, true, false, ◌==◌, nat_le, if◌then◌else◌, Ok, Err}
-use Rattle.owi_base.specs.Forms.{◌>>=◌, gives, checked, within}
+use Rattle.grammar_forms.specs.Forms.{◌>>=◌, gives, checked, within}
 use Rattle.wasm_ast.specs.declared.types.ValType.{ValType}
 use Rattle.wasm_ast.specs.declared.types.ValType.TheVariants.{I32, I64, FuncRef, ExternRef}
 use Rattle.wasm_ast.specs.declared.modules.Group.{Group}

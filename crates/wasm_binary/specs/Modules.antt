@@ -1,6 +1,6 @@
 -- Modules in bytes (Binary Format, Modules): which bytes spell which module, and the first trouble of those that spell none.
 use Rattle.std.specs.Prelude.{◌≡◌, ◌≢◌, ℕ, zero, suc, ◌+◌, ◌-◌, ◌<◌, ◌⊎◌, List, [], ◌∷◌, ◌++◌, length, map, ◌==◌, nat_lt, nat_le, if◌then◌else◌, Option, Some, None, is_some, Ok, Err}
-use Rattle.owi_base.specs.Forms.{Window, Between, ◌>>=◌, gives, any_byte, checked, many, measured, within, when◌form◌else◌}
+use Rattle.grammar_forms.specs.Forms.{Window, Between, ◌>>=◌, gives, any_byte, checked, many, measured, within, when◌form◌else◌}
 use Rattle.wasm_ast.specs.Sections.{is_written}
 use Rattle.wasm_ast.specs.declared.types.FuncType.{FuncType}
 use Rattle.wasm_ast.specs.declared.types.Limits.{Limits}
@@ -16,7 +16,7 @@ use Rattle.wasm_ast.specs.declared.modules.Module.{Module}
 use Rattle.wasm_binary.specs.Faults.{Fault, cut, magic, byte, order, size, count}
 use Rattle.wasm_binary.specs.Values.{Grammar, Test, u32, vec, name}
 use Rattle.wasm_binary.specs.Types.{func_type, limits, table_type}
-use Rattle.wasm_binary.specs.Parts.{import, global, export, elem, segment}
+use Rattle.wasm_binary.specs.SectionEntries.{import, global, export, elem, segment}
 use Rattle.wasm_binary.specs.Locals.{Code, code}
 
 -- what the sections so far hold

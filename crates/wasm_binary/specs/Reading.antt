@@ -1,6 +1,6 @@
 -- Reading a module from left to right, as a function. What it gives is proved to be what is spelled (Modules).
 use Rattle.std.specs.Prelude.{ℕ, zero, suc, ◌==◌, List, length, nat_lt, if◌then◌else◌, Option, Some, None, Result, Ok, Err}
-use Rattle.owi_base.specs.Forms.{Window}
+use Rattle.grammar_forms.specs.Forms.{Window}
 use Rattle.wasm_ast.specs.declared.modules.Module.{Module}
 use Rattle.wasm_binary.specs.Faults.{Fault, count}
 use Rattle.wasm_binary.specs.Modules.{Sections, no_sections, front, section, module_of, whole}

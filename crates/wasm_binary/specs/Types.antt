@@ -1,6 +1,6 @@
 -- Types in bytes (Binary Format, Types; block types: Instructions, Control Instructions).
 use Rattle.std.specs.Prelude.{ℕ, ℤ, pos, negsuc, ◌==◌, nat_lt, if◌then◌else◌, Option, Some, None, Result, Ok, Err}
-use Rattle.owi_base.specs.Forms.{◌>>=◌, gives, any_byte, checked, by_first, when◌form◌else◌}
+use Rattle.grammar_forms.specs.Forms.{◌>>=◌, gives, any_byte, checked, by_first, when◌form◌else◌}
 use Rattle.wasm_ast.specs.Opcodes.{is_from}
 use Rattle.wasm_ast.specs.declared.types.ValType.{ValType}
 use Rattle.wasm_ast.specs.declared.types.ValType.TheVariants.{I32, I64, FuncRef, ExternRef}

@@ -1,7 +1,7 @@
 -- Numbers, vectors and names in bytes (Binary Format: Values, Conventions).
 use Rattle.std.specs.Prelude.{ℕ, List, ◌==◌, if◌then◌else◌, Result, Ok, Err}
 use Rattle.std.specs.Str.{is_utf8}
-use Rattle.owi_base.specs.Forms.{Form, ◌>>=◌, any_byte, checked, many, unsigned, signed}
+use Rattle.grammar_forms.specs.Forms.{Form, ◌>>=◌, any_byte, checked, many, unsigned, signed}
 use Rattle.wasm_binary.specs.Faults.{Fault, leb, byte, utf8}
 use Rattle.std.specs.Prelude.{ℤ}
 

@@ -1,5 +1,6 @@
 // What follows of the grammar alone.
-ghost use Rattle.std.specs.Prelude.{◌≡◌, ◌⊎◌, ℕ, List};
+ghost use Rattle.std.specs.Prelude.{◌≡◌, ◌⊎◌, ◌^◌, ◌<◌, ℕ, List, [], All, length};
+ghost use Rattle.wasm_ast.specs.Shape.{HasShape};
 ghost use Rattle.wasm_ast.specs.declared.modules.Module.{Module as OneModule};
 ghost use Rattle.wasm_binary.specs.Faults.{Fault, cut, leb, outside};
 ghost use Rattle.wasm_binary.specs.Modules.{IsBinary, BinaryFault};
@@ -15,6 +16,13 @@ pub fn binary_is_unique()
 /// Law: bytes spell a module, or they have a first trouble.
 pub fn binary_is_decided()
     ensures { (bytes : List ℕ) → ((m : OneModule) × IsBinary m bytes) ⊎ ((fault : Fault) × BinaryFault bytes fault) }
+{}
+
+/// Law: a module that bytes spell is well-formed, without its custom sections, and with them where there are fewer than 2^32 of
+/// them: no field of a module counts these.
+pub fn binary_has_shape()
+    ensures stripped { (bytes : List ℕ) (m : OneModule) → All (λ b. b < 2 ^ 8) bytes → IsBinary m bytes → HasShape (record m { customs = [] }) }
+    ensures whole { (bytes : List ℕ) (m : OneModule) → All (λ b. b < 2 ^ 8) bytes → IsBinary m bytes → length m.customs < 2 ^ 32 → HasShape m }
 {}
 
 /// Examples: a module of 37 bytes, and three first troubles of bytes that differ from them.

@@ -2,7 +2,7 @@
 use Rattle.std.proofs.Common.{◌≡◌, ℕ, zero, suc, ◌+◌, ◌-◌, ◌*◌, ◌^◌, ◌<◌, ◌≤◌, refl, arith}
 use Rattle.std.specs.Prelude.{Bool, true, false, nat_le, if◌then◌else◌}
 use Rattle.std.proofs.lemmas.Bool.Decides.{nat_tests}
-use Rattle.wasm_check.specs.Checker.{is_aligned}
+use Rattle.wasm_check.specs.code.Checker.{is_aligned}
 use Rattle.wasm_check.specs.Operators.{accessed_bytes}
 
 of-three : (a b c : Bool) (n : ℕ) → n ≡ (if a then 1 else if b then 2 else if c then 4 else 8) → n ≤ 8

@@ -12,7 +12,7 @@ use Rattle.wasm_check.specs.declared.operands.Operand.{Operand}
 use Rattle.wasm_check.specs.declared.operands.Operand.TheVariants.{Of}
 use Rattle.wasm_check.specs.Operands.{Matches, AllMatch, operands, Takes}
 use Rattle.wasm_check.specs.Instructions.{Labels, IsTyped}
-use Rattle.wasm_check.specs.Checker.{Stack, bind, when, onto, pops, popped, is_empty, acts, Open, labels_of, opened, opens, finished, closes, second, finished_other, ends, turns, run}
+use Rattle.wasm_check.specs.code.Checker.{Stack, bind, when, onto, pops, popped, is_empty, acts, Open, labels_of, opened, opens, finished, closes, second, finished_other, ends, turns, run}
 use Rattle.wasm_check.proofs.Stacks.{bind-some, when-some, Covers, General, Covered, Fits, Matches-self, Matches-on, popped-sound, popped-complete, pops-sound, pops-complete, Covers-append, General-append}
 use Rattle.wasm_check.proofs.Rules.{Takes-self, Sound, acts-sound, acts-complete}
 

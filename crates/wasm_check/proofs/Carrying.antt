@@ -14,13 +14,14 @@ use Rattle.wasm_ast.specs.declared.instructions.Instr.TheVariants.{BrTable}
 use Rattle.wasm_check.specs.declared.operands.Operand.{Operand}
 use Rattle.wasm_check.specs.declared.operands.Operand.TheVariants.{Of}
 use Rattle.wasm_check.specs.Contexts.{Context}
-use Rattle.wasm_check.specs.declared.lists.Listed.{Listed}
-use Rattle.wasm_check.specs.declared.carried.Seen.{Seen}
+use Rattle.type_suffixes.specs.declared.lists.Listed.{Listed}
+use Rattle.type_suffixes.specs.declared.seen.Seen.{Seen}
 use Rattle.wasm_check.specs.Operands.{operands}
 use Rattle.wasm_check.specs.Instructions.{Labels}
-use Rattle.wasm_check.specs.Lists.{listed}
-use Rattle.wasm_check.specs.Checker.{Stack, Answers, dead_end, acts, bind, when, pops, popped, same_count, each_fits}
-use Rattle.wasm_check.specs.Carried.{Passes, CanCarry, CanTake, is_seen, IsPut, SeenPass}
+use Rattle.type_suffixes.specs.Lists.{listed}
+use Rattle.wasm_check.specs.code.Checker.{Stack, Answers, dead_end, acts, bind, when, pops, popped, same_count, each_fits}
+use Rattle.wasm_check.specs.code.Carried.{Passes, CanCarry, CanTake, SeenPass}
+use Rattle.type_suffixes.specs.Seen.{is_seen, IsPut}
 use Rattle.wasm_check.proofs.Rules.{same_count-true}
 use Rattle.wasm_check.proofs.Labels.{each-goes}
 

@@ -9,10 +9,11 @@ use Rattle.wasm_ast.specs.declared.modules.Module.{Module}
 use Rattle.wasm_check.specs.declared.spaces.Spaces.{Spaces}
 use Rattle.wasm_check.specs.Contexts.{Context, funcs_of, tables_of, memories_of, globals_of, is_declared, locals_of, context_of}
 use Rattle.wasm_check.specs.Faults.{BodyFailsAt}
-use Rattle.wasm_check.specs.Kept.{context, kept_of}
+use Rattle.wasm_check.specs.code.Kept.{context, kept_of}
 use Rattle.wasm_check.specs.Modules.{BodyIsValid}
-use Rattle.wasm_check.specs.Progress.{BodyPasses, BodyStopsAt}
-use Rattle.wasm_check.specs.Spaces.{AreSpacesOf, AreDeclared}
+use Rattle.wasm_check.specs.code.Progress.{BodyPasses, BodyStopsAt}
+use Rattle.wasm_check.specs.Spaces.{AreSpacesOf}
+use Rattle.wasm_check.specs.code.Sections.{AreDeclared}
 
 pub context-of : (m : Module) (spaces : Spaces) (flags : List Bool) (f : Func) (type : FuncType) (locals : List ValType) → AreSpacesOf m spaces → AreDeclared m (length (funcs_of m)) flags → locals ≡ locals_of f.locals →
     context (kept_of m spaces flags type locals) ≡ context_of m f type

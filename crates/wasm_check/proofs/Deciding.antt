@@ -9,9 +9,9 @@ use Rattle.wasm_check.specs.declared.operands.Operand.{Operand}
 use Rattle.wasm_check.specs.declared.operands.Operand.TheVariants.{Of, Bottom}
 use Rattle.wasm_check.specs.declared.stack.Run.{Run}
 use Rattle.wasm_check.specs.Operands.{operands}
-use Rattle.wasm_check.specs.Runs.{run_of, runs_of, held}
-use Rattle.wasm_check.specs.Checker.{fits, Stack, bind, when, pops, popped}
-use Rattle.wasm_check.specs.Carried.{HangsOn}
+use Rattle.wasm_check.specs.code.Runs.{run_of, runs_of, held}
+use Rattle.wasm_check.specs.code.Checker.{fits, Stack, bind, when, pops, popped}
+use Rattle.wasm_check.specs.code.Carried.{HangsOn}
 use Rattle.wasm_check.proofs.Stacks.{bind-some, when-some}
 use Rattle.wasm_check.proofs.RunLemmas.{operands-reverse}
 

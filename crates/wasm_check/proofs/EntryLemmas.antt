@@ -7,7 +7,7 @@ use Rattle.wasm_ast.specs.declared.modules.Module.{Module}
 use Rattle.wasm_check.specs.declared.sections.Section.{Section}
 use Rattle.wasm_check.specs.declared.sections.Section.TheVariants.{Imports, Functions, Tables, Memories, Globals, Exports, Start, Elements, Code, Data}
 use Rattle.wasm_check.specs.Modules.{OfEntry, EntryIsValid, SectionIsValid}
-use Rattle.wasm_check.specs.Spaces.{section_size}
+use Rattle.wasm_check.specs.code.Sections.{section_size}
 
 same-entry : {A : Type 0} (x y : A) → Some x ≡ Some y → x ≡ y
 same-entry x y e = cc

@@ -13,7 +13,7 @@ use Rattle.wasm_ast.specs.declared.modules.Space.TheVariants.{Func as FuncSpace}
 use Rattle.wasm_ast.specs.declared.modules.Module.{Module}
 use Rattle.wasm_ast.specs.Straight.{straight_module}
 use Rattle.wasm_check.specs.declared.sections.Section.TheVariants.{Imports, Functions, Tables, Memories, Globals, Exports, Start, Elements, Code, Data}
-use Rattle.wasm_check.specs.Checker.{fault, start_of}
+use Rattle.wasm_check.specs.code.Checker.{fault, start_of}
 use Rattle.wasm_check.specs.Contexts.{Context, context_of}
 use Rattle.wasm_check.specs.Faults.{IsFirstFault}
 use Rattle.wasm_check.specs.Instructions.{IsValidBody}

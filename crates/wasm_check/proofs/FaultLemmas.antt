@@ -10,10 +10,10 @@ use Rattle.wasm_check.specs.declared.sections.Section.TheVariants.{Imports, Func
 use Rattle.wasm_check.specs.declared.why.Why.{Why}
 use Rattle.wasm_check.specs.Faults.{section_id, ValidBelow, BodyFailsAt, FirstFault}
 use Rattle.wasm_check.specs.Modules.{BodyIsValid, EntryIsValid, SectionIsValid, IsValid}
-use Rattle.wasm_check.specs.Spaces.{IsFieldFault, FailsIn}
+use Rattle.wasm_check.specs.code.Sections.{IsFieldFault, FailsIn}
 use Rattle.wasm_check.proofs.ModuleLemmas.{same-section, valid_below-more, all_below, fails-invalid}
 
-all-at : {A : Type 0} (P : A → Type 0) (xs : List A) (k : ℕ) (x : A) → All P xs → slice_get xs k ≡ Some x → P x
+pub all-at : {A : Type 0} (P : A → Type 0) (xs : List A) (k : ℕ) (x : A) → All P xs → slice_get xs k ≡ Some x → P x
 all-at P xs k x all e = subst P (get_or_from_slice_get xs k x x e) (all k x (slice_get_within xs k x e))
 
 -- of an entry

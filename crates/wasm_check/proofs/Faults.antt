@@ -14,7 +14,7 @@ use Rattle.wasm_check.specs.declared.operands.Operand.TheVariants.{Of}
 use Rattle.wasm_check.specs.Operands.{AllMatch, operands, Takes}
 use Rattle.wasm_check.specs.Instructions.{Labels, IsTyped, IsValidBody}
 use Rattle.wasm_check.specs.Faults.{CanBegin, IsFirstFault}
-use Rattle.wasm_check.specs.Checker.{Stack, bind, onto, popped, acts, Open, labels_of, opened, second, reads, run, start_of, fault, fault_after, later}
+use Rattle.wasm_check.specs.code.Checker.{Stack, bind, onto, popped, acts, Open, labels_of, opened, second, reads, run, start_of, fault, fault_after, later}
 use Rattle.wasm_check.proofs.Stacks.{bind-some, Covers, Covered, Fits, Matches-self, popped-sound, Covers-append}
 use Rattle.wasm_check.proofs.Rules.{Covers-self, Takes-self, Sound, acts-sound}
 use Rattle.wasm_check.proofs.Bodies.{emptiness, Reaches, finished-complete, at_stack, after_end, complete, Passes, plain-passes, inner-typed, around-passes, Opened, OpenedAs, block-some, ends-some, ends_first-some, turns-some, nothing-typed, sound, Covers-live}

@@ -6,7 +6,7 @@ use Rattle.wasm_ast.specs.declared.types.ValType.{ValType}
 use Rattle.wasm_check.specs.declared.operands.Operand.{Operand}
 use Rattle.wasm_check.specs.Operands.{operands}
 use Rattle.wasm_check.specs.Instructions.{Labels}
-use Rattle.wasm_check.specs.Checker.{Stack, bind, when, pops, popped, same_count, each_fits, Open, labels_of}
+use Rattle.wasm_check.specs.code.Checker.{Stack, bind, when, pops, popped, same_count, each_fits, Open, labels_of}
 use Rattle.wasm_check.proofs.Stacks.{bind-some}
 use Rattle.wasm_check.proofs.Rules.{count-same}
 

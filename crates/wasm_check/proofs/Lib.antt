@@ -1,16 +1,17 @@
 mod Alignment
 mod Bodies
 mod Carrying
+pub mod ConstantLemmas
 mod ContextLemmas
 mod Deciding
 mod EntryLemmas
 mod Examples
 mod FaultLemmas
 mod Faults
+mod FaultsExist
+mod FirstFaults
 mod Labels
-mod NamedLists
 mod LocalLemmas
-mod MarkLemmas
 mod ModuleLemmas
 mod NameLemmas
 mod OpenLemmas

@@ -9,7 +9,7 @@ use Rattle.std.proofs.lemmas.Option.{slice_get_past}
 use Rattle.wasm_ast.specs.declared.types.ValType.{ValType}
 use Rattle.wasm_ast.specs.declared.modules.Group.{Group}
 use Rattle.wasm_check.specs.Contexts.{locals_of}
-use Rattle.wasm_check.specs.Spaces.{AreEnds, IsGroupOf}
+use Rattle.wasm_check.specs.code.Sections.{AreEnds, IsGroupOf}
 
 pub ends-more : (groups : List Group) (ends : List ℕ) (k end : ℕ) → AreEnds groups k ends → end ≡ sum_by (λ g. g.count) (take (k + 1) groups) → AreEnds groups (k + 1) (ends ++ end ∷ [])
 ends-more groups ends k end are e = record {

@@ -8,17 +8,17 @@ use Rattle.wasm_ast.specs.declared.types.FuncType.{FuncType}
 use Rattle.wasm_ast.specs.declared.instructions.Instr.{Instr}
 use Rattle.wasm_check.specs.declared.operands.Operand.{Operand}
 use Rattle.wasm_check.specs.declared.operands.Operand.TheVariants.{Of}
-use Rattle.wasm_check.specs.declared.lists.Listed.{Listed}
-use Rattle.wasm_check.specs.declared.lists.Listed.TheVariants.{Nothing}
+use Rattle.type_suffixes.specs.declared.lists.Listed.{Listed}
+use Rattle.type_suffixes.specs.declared.lists.Listed.TheVariants.{Nothing}
 use Rattle.wasm_check.specs.declared.stack.Stack.{Stack as Runs}
 use Rattle.wasm_check.specs.declared.open.OpenSeq.{OpenSeq}
 use Rattle.wasm_check.specs.Contexts.{Context}
 use Rattle.wasm_check.specs.Operands.{operands}
 use Rattle.wasm_check.specs.Operators.{arrow}
-use Rattle.wasm_check.specs.Lists.{listed}
-use Rattle.wasm_check.specs.Runs.{known, open_of, open_seqs, labels_in}
+use Rattle.type_suffixes.specs.Lists.{listed}
+use Rattle.wasm_check.specs.code.Runs.{known, open_of, open_seqs, labels_in}
 use Rattle.wasm_check.specs.Trees.{Token, Does}
-use Rattle.wasm_check.specs.Checker.{Stack, bind, when, onto, pops, popped, acts, is_empty, Open, opened, opens, finished, finished_other, closes, second, ends, turns, on_open, reads, start_of, SomeBy}
+use Rattle.wasm_check.specs.code.Checker.{Stack, bind, when, onto, pops, popped, acts, is_empty, Open, opened, opens, finished, finished_other, closes, second, ends, turns, on_open, reads, start_of, SomeBy}
 use Rattle.wasm_check.proofs.Stacks.{bind-some}
 use Rattle.wasm_check.proofs.RunLemmas.{open-more, popped-one}
 

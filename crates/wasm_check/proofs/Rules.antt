@@ -13,7 +13,7 @@ use Rattle.wasm_check.specs.declared.operands.Operand.TheVariants.{Of, Bottom}
 use Rattle.wasm_check.specs.Operands.{Matches, AllMatch, operands, Takes, IsNumeric}
 use Rattle.wasm_check.specs.Instructions.{HasType, Labels, EachTakes, Rule}
 use Rattle.wasm_check.proofs.Signatures.{signature-sound, signature-complete}
-use Rattle.wasm_check.specs.Checker.{signature, Stack, bind, when, onto, dead_end, pops, popped, with_pop, joined, reference, applies, acts, same_count, each_fits}
+use Rattle.wasm_check.specs.code.Checker.{signature, Stack, bind, when, onto, dead_end, pops, popped, with_pop, joined, reference, applies, acts, same_count, each_fits}
 use Rattle.wasm_check.proofs.Stacks.{bind-some, when-some, Covers, General, Covered, Fits, Matches-self, Matches-on, fits-matches, popped-sound, popped-complete, pops-complete, with_pop-sound, with_pop-complete, joined-sound, joined-complete, reference-sound, reference-complete, applies-sound, applies-complete, Covers-append, General-append}
 
 pub Covers-self : (dead : Bool) (ops : List Operand) → Covers dead ops ops

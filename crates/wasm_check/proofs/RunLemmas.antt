@@ -7,19 +7,19 @@ use Rattle.wasm_ast.specs.declared.types.ValType.{ValType}
 use Rattle.wasm_ast.specs.declared.types.FuncType.{FuncType}
 use Rattle.wasm_check.specs.declared.operands.Operand.{Operand}
 use Rattle.wasm_check.specs.declared.operands.Operand.TheVariants.{Of, Bottom}
-use Rattle.wasm_check.specs.declared.lists.Listed.{Listed}
-use Rattle.wasm_check.specs.declared.lists.Listed.TheVariants.{Nothing}
+use Rattle.type_suffixes.specs.declared.lists.Listed.{Listed}
+use Rattle.type_suffixes.specs.declared.lists.Listed.TheVariants.{Nothing}
 use Rattle.wasm_check.specs.declared.stack.Run.{Run}
 use Rattle.wasm_check.specs.declared.stack.Run.TheVariants.{First}
 use Rattle.wasm_check.specs.declared.stack.Stack.{Stack as Runs}
 use Rattle.wasm_check.specs.declared.stack.Peek.{Peek}
 use Rattle.wasm_check.specs.declared.open.OpenSeq.{OpenSeq}
 use Rattle.wasm_check.specs.Operands.{operands}
-use Rattle.type_words.specs.Words.{EndsWith}
-use Rattle.wasm_check.specs.Lists.{listed}
-use Rattle.wasm_check.specs.Runs.{run_of, runs_of, held, known, peeked, open_of, open_seqs, labels_in}
-use Rattle.wasm_check.specs.Checker.{same_type, fits, Stack, bind, when, onto, pops, popped, with_pop, pop_of, is_empty}
-use Rattle.wasm_check.proofs.Stacks.{same_type-self, same_type-true}
+use Rattle.type_suffixes.specs.Words.{EndsWith}
+use Rattle.type_suffixes.specs.Lists.{listed}
+use Rattle.wasm_check.specs.code.Runs.{run_of, runs_of, held, known, peeked, open_of, open_seqs, labels_in}
+use Rattle.wasm_check.specs.code.Checker.{fits, Stack, bind, when, onto, pops, popped, with_pop, pop_of, is_empty}
+use Rattle.wasm_check.proofs.Stacks.{same_type-self}
 use Rattle.wasm_check.proofs.Labels.{labels-none, labels-some}
 
 -- ---- operands of a list, one by one
@@ -239,14 +239,3 @@ none-of-both (x ∷ xs) rest ops e h = ap is_empty e
 pub peeked-is-none : (types : List FuncType) (p : Peek) (old : Stack) → peeked types p ≡ old → (run_of types p.last ≡ [] → (peeked types p).ops ≡ []) → is_empty (run_of types p.last) ≡ is_empty old.ops
 unfolding peeked
 peeked-is-none types p old e h = none-of-both (run_of types p.last) (runs_of types (reverse p.below.now)) (peeked types p).ops refl h ∙ ap (λ (s : Stack). is_empty s.ops) e
-
--- ---- lists that are the same as far as they were looked at
-
-pub same-on : (ts us : List ValType) (i : ℕ) (d e : ValType) → take i ts ≡ take i us → i < length ts → i < length us → same_type (get_or ts i d) (get_or us i e) ≡ true → take (i + 1) ts ≡ take (i + 1) us
-same-on ts us i d e same h k r =
-    let next : i + 1 ≡ suc i = omega arith in
-    ap (λ n. take n ts) next ∙ take-suc ts i d h ∙ ap (λ l. l ++ get_or ts i d ∷ []) same ∙ ap (λ x. take i us ++ x ∷ []) (same_type-true (get_or ts i d) (get_or us i e) r)
-    ∙ sym (take-suc us i e k) ∙ ap (λ n. take n us) (sym next)
-
-pub same-all : (ts us : List ValType) (n : ℕ) → length ts ≡ length us → take n ts ≡ take n us → length ts ≤ n → ts ≡ us
-same-all ts us n l e h = sym (take_all n ts h) ∙ e ∙ take_all n us (omega (arith, l, h))

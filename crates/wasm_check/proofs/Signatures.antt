@@ -9,7 +9,8 @@ use Rattle.wasm_ast.specs.declared.types.TableType.{TableType}
 use Rattle.wasm_ast.specs.declared.types.GlobalType.{GlobalType}
 use Rattle.wasm_ast.specs.declared.instructions.Instr.{Instr}
 use Rattle.wasm_ast.specs.declared.instructions.Instr.TheVariants.{Nop, Call, CallIndirect, RefNull, RefFunc, SelectTyped, LocalGet, LocalSet, LocalTee, GlobalGet, GlobalSet, TableGet, TableSet, TableInit, ElemDrop, TableCopy, TableGrow, TableSize, TableFill, Load, Store, MemorySize, MemoryGrow, MemoryInit, DataDrop, MemoryCopy, MemoryFill, Const32, Const64, Num}
-use Rattle.wasm_check.specs.Checker.{bind, when, same_type, has_memory, is_aligned, selected, signature}
+use Rattle.wasm_check.specs.code.Checker.{bind, when, has_memory, is_aligned, selected, signature}
+use Rattle.wasm_check.specs.Operands.{same_type}
 use Rattle.wasm_check.specs.Contexts.{Context}
 use Rattle.wasm_check.specs.Instructions.{HasMemory, HasType, three_numbers}
 use Rattle.wasm_check.specs.Operators.{arrow, accessed_type, accessed_bytes}

@@ -6,7 +6,8 @@ use Rattle.wasm_ast.specs.declared.types.ValType.TheVariants.{I32, I64, FuncRef,
 use Rattle.wasm_check.specs.declared.operands.Operand.{Operand}
 use Rattle.wasm_check.specs.declared.operands.Operand.TheVariants.{Of, Bottom}
 use Rattle.wasm_check.specs.Operands.{Matches, operands, Takes, IsNumeric, IsReference}
-use Rattle.wasm_check.specs.Checker.{same_type, fits, Stack, bind, when, onto, pops, popped, with_pop, numeric, common, joined, reference, applies}
+use Rattle.wasm_check.specs.code.Checker.{fits, Stack, bind, when, onto, pops, popped, with_pop, numeric, common, joined, reference, applies}
+use Rattle.wasm_check.specs.Operands.{same_type}
 
 pub bind-some : {A B : Type 0} (o : Option A) (go : A → Option B) (y : B) → bind o go ≡ Some y → (x : A) × (o ≡ Some x) × (go x ≡ Some y)
 bind-some None go y e = cc

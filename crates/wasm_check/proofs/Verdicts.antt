@@ -9,9 +9,9 @@ use Rattle.wasm_check.specs.declared.walk.Place.{Place}
 use Rattle.wasm_check.specs.declared.walk.Written.{Written}
 use Rattle.wasm_check.specs.declared.walk.Written.TheVariants.{Instruction, Other, End, Over}
 use Rattle.wasm_check.specs.Trees.{Tree, Token, Else, Ends, seq_of, Makes, body_tokens}
-use Rattle.wasm_check.specs.Checker.{Open, reads, fault, fault_after, later, start_of, SomeBy}
-use Rattle.wasm_check.specs.Progress.{IsWritten, after, HasCome, IsFoundIn, BodyPasses, BodyStopsAt}
-use Rattle.wasm_check.specs.Walk.{Left, NextIs, token_of}
+use Rattle.wasm_check.specs.code.Checker.{Open, reads, fault, fault_after, later, start_of, SomeBy}
+use Rattle.wasm_check.specs.code.Progress.{IsWritten, after, HasCome, IsFoundIn, BodyPasses, BodyStopsAt}
+use Rattle.wasm_check.specs.code.Walk.{Left, NextIs, token_of}
 use Rattle.wasm_check.proofs.TreeLemmas.{HasTree, tree-of}
 use Rattle.wasm_check.proofs.Faults.{passed-valid, named-first}
 

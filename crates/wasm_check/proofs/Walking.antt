@@ -6,7 +6,7 @@ use Rattle.wasm_ast.specs.declared.instructions.Instr.TheVariants.{Block, Loop, 
 use Rattle.wasm_check.specs.declared.walk.Place.{Place}
 use Rattle.wasm_check.specs.Trees.{Tree, Nothing, Plain, Blocks, Loops, Ifs, Token, Does, Else, Ends, by_emptiness, written, seq_of, Makes, IsPlain}
 use Rattle.wasm_check.specs.declared.walk.Written.TheVariants.{Instruction, Other, End}
-use Rattle.wasm_check.specs.Walk.{Closing, Left, NextIs, opened_by, token_of}
+use Rattle.wasm_check.specs.code.Walk.{Closing, Left, NextIs, opened_by, token_of}
 use Rattle.std.proofs.lemmas.List.{reverse-append}
 
 drop-some : {A : Type 0} (xs : List A) (n : ℕ) (x : A) → slice_get xs n ≡ Some x → drop n xs ≡ x ∷ drop (n + 1) xs

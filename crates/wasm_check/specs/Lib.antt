@@ -1,16 +1,10 @@
-pub mod Carried
-pub mod Checker
 pub mod Constants
 pub mod Contexts
 pub mod Faults
 pub mod Instructions
-pub mod Kept
-pub mod Lists
 pub mod Modules
 pub mod Operands
 pub mod Operators
-pub mod Progress
-pub mod Runs
 pub mod Spaces
 pub mod Trees
-pub mod Walk
+pub mod code

@@ -2,12 +2,13 @@
 --
 -- A module is valid where each entry of each of its sections is: `EntryIsValid`. An entry is judged in view of the whole
 -- module.
-use Rattle.std.specs.Prelude.{◌≡◌, ◌≢◌, ℕ, ◌-◌, ◌^◌, ◌<◌, ◌≤◌, List, [], length, take, All, Some, IfSome, IsNone, slice_get}
+use Rattle.std.specs.Prelude.{◌≡◌, ◌≢◌, ℕ, ◌+◌, ◌-◌, ◌^◌, ◌<◌, ◌≤◌, List, [], length, take, All, Some, IfSome, IsNone, slice_get}
 use Rattle.wasm_ast.specs.declared.types.ValType.{ValType}
 use Rattle.wasm_ast.specs.declared.types.ValType.TheVariants.{I32}
 use Rattle.wasm_ast.specs.declared.types.FuncType.{FuncType}
 use Rattle.wasm_ast.specs.declared.types.Limits.{Limits}
 use Rattle.wasm_ast.specs.declared.types.TableType.{TableType}
+use Rattle.wasm_ast.specs.declared.types.GlobalType.{GlobalType}
 use Rattle.wasm_ast.specs.declared.instructions.Expr.{Expr}
 use Rattle.wasm_ast.specs.declared.modules.ImportKind.{ImportKind}
 use Rattle.wasm_ast.specs.declared.modules.ImportKind.TheVariants.{Func as FuncImport, Table as TableImport, Memory as MemoryImport, Global as GlobalImport}
@@ -66,9 +67,13 @@ pub record MemoryIsValid (m : Module) (k : ℕ) (limits : Limits) : Type 0 where
   pub first : k ≡ 0
   pub only : ImportNoMemory m.imports
 
--- the first value of a global is a constant of its type, which may be the value of an imported global
-abbrev pub GlobalIsValid : Module → GlobalDef → Type 0
-GlobalIsValid m g = IsConstant (length (funcs_of m)) (imported_globals m) g.init g.ty.kind
+-- the globals before the k-th of the module's own: the imported ones, and its own of lower numbers
+abbrev pub globals_before : Module → ℕ → List GlobalType
+globals_before m k = take (length (imported_globals m) + k) (globals_of m)
+
+-- the first value of the entry k is a constant of its type, in which `global.get` names globals before it
+abbrev pub GlobalIsValid : Module → ℕ → GlobalDef → Type 0
+GlobalIsValid m k g = IsConstant (length (funcs_of m)) (globals_before m k) g.init g.ty.kind
 
 -- how many functions, tables, memories or globals there are
 abbrev pub space_size : Module → Space → ℕ
@@ -92,7 +97,7 @@ StartIsValid m x = (ty : ℕ) × (slice_get (funcs_of m) x ≡ Some ty) × (slic
 
 -- ---- segments
 
--- where an active segment starts: a constant number
+-- Where an active segment starts: a constant number. In segments `global.get` names any immutable global.
 abbrev pub IsOffset : Module → Expr → Type 0
 IsOffset m offset = IsConstant (length (funcs_of m)) (globals_of m) offset I32
 
@@ -135,7 +140,7 @@ EntryIsValid m Imports k = OfEntry m.imports k (λ i. ImportIsValid m k i.kind)
 EntryIsValid m Functions k = OfEntry m.funcs k (λ f. IsType m f.ty)
 EntryIsValid m Tables k = OfEntry m.tables k IsTableType
 EntryIsValid m Memories k = OfEntry m.memories k (MemoryIsValid m k)
-EntryIsValid m Globals k = OfEntry m.globals k (GlobalIsValid m)
+EntryIsValid m Globals k = OfEntry m.globals k (GlobalIsValid m k)
 EntryIsValid m Exports k = OfEntry m.exports k (ExportIsValid m k)
 EntryIsValid m Start k = (x : ℕ) → k ≡ 0 → m.start ≡ Some x → StartIsValid m x
 EntryIsValid m Elements k = OfEntry m.elems k (ElemIsValid m)

@@ -3,11 +3,19 @@
 -- An operand type is a value type or ⊥, which matches every type: it is `Operand` of src. In code that isn't reached the
 -- rules let operands have any types, and two operands of one such type are what makes `unreachable select` valid.
 -- Lists of operand types have the last operand first.
-use Rattle.std.specs.Prelude.{◌≡◌, List, [], ◌∷◌, reverse, map}
+use Rattle.std.specs.Prelude.{◌≡◌, List, [], ◌∷◌, reverse, map, Bool, true, false}
 use Rattle.wasm_ast.specs.declared.types.ValType.{ValType}
 use Rattle.wasm_ast.specs.declared.types.ValType.TheVariants.{I32, I64, FuncRef, ExternRef}
 use Rattle.wasm_check.specs.declared.operands.Operand.{Operand}
 use Rattle.wasm_check.specs.declared.operands.Operand.TheVariants.{Of, Bottom}
+
+-- whether two value types are one
+abbrev pub same_type : ValType → ValType → Bool
+same_type I32 I32 = true
+same_type I64 I64 = true
+same_type FuncRef FuncRef = true
+same_type ExternRef ExternRef = true
+same_type t u = false
 
 -- the first type matches the second
 abbrev pub Matches : Operand → Operand → Type 0

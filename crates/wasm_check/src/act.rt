@@ -3,15 +3,15 @@ ghost use Rattle.std.specs.Prelude.{◌≡◌, ◌∷◌, [], IfOk, None, Some};
 ghost use Rattle.wasm_ast.specs.declared.instructions.Instr.TheVariants.{RefIsNull, Discard, Select};
 ghost use Rattle.wasm_check.specs.Operands.{operands};
 ghost use Rattle.wasm_check.specs.Contexts.{Context};
-ghost use Rattle.wasm_check.specs.Lists.{listed};
-ghost use Rattle.wasm_check.specs.Runs.{known};
-ghost use Rattle.wasm_check.specs.Checker.{Answers, bind, common as common_of, numeric as numeric_of, joined as joined_type, reference as reference_of, dead_end, popped, onto, applies as applies_of, acts as acts_of};
+ghost use Rattle.type_suffixes.specs.Lists.{listed};
+ghost use Rattle.wasm_check.specs.code.Runs.{known};
+ghost use Rattle.wasm_check.specs.code.Checker.{Answers, bind, common as common_of, numeric as numeric_of, joined as joined_type, reference as reference_of, dead_end, popped, onto, applies as applies_of, acts as acts_of};
 
-use crate::lists::Listed;
 use crate::operands::Operand;
 use crate::scope::Scope;
 use crate::stack::Stack;
 use std::alloc::AllocError;
+use type_suffixes::Listed;
 use wasm_ast::ValType;
 
 fn is_reference(t: Operand) -> bool

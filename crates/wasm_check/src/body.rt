@@ -1,20 +1,20 @@
 // The checker of a function's body: a stack of open sequences, and a walk through the body.
 ghost use Rattle.std.specs.Prelude.{◌≡◌, ◌<◌, ◌-◌, IfOk, MatchOption, Option, true, false, None, Some};
 ghost use Rattle.wasm_ast.specs.Shape.{ExprHasShape};
-ghost use Rattle.wasm_check.specs.Runs.{open_of, open_seqs};
-ghost use Rattle.wasm_check.specs.Checker.{SomeBy, on_open, reads as reads_of, start_of};
+ghost use Rattle.wasm_check.specs.code.Runs.{open_of, open_seqs};
+ghost use Rattle.wasm_check.specs.code.Checker.{SomeBy, on_open, reads as reads_of, start_of};
 ghost use Rattle.wasm_check.specs.Trees.{Token, Does, Opens_block, Opens_loop, Opens_if};
-ghost use Rattle.wasm_check.specs.Walk.{token_of};
-ghost use Rattle.wasm_check.specs.Progress.{IsWritten, IsFoundIn, BodyPasses, BodyStopsAt};
-ghost use Rattle.wasm_check.specs.Kept.{context};
+ghost use Rattle.wasm_check.specs.code.Walk.{token_of};
+ghost use Rattle.wasm_check.specs.code.Progress.{IsWritten, IsFoundIn, BodyPasses, BodyStopsAt};
+ghost use Rattle.wasm_check.specs.code.Kept.{context};
 
-use crate::lists::Listed;
 use crate::open::{OpenSeq, ends, opens, opens_if, turns};
 use crate::plain::acts;
 use crate::scope::Scope;
 use crate::stack::Stack;
 use crate::walk::{Written, instr_at, walk};
 use std::alloc::{AllocError, Global};
+use type_suffixes::Listed;
 use wasm_ast::{BlockType, Expr, Instr, List};
 
 fn plain(

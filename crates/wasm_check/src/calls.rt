@@ -2,9 +2,9 @@
 ghost use Rattle.std.specs.Prelude.{[], IfOk};
 ghost use Rattle.wasm_ast.specs.declared.instructions.Instr.TheVariants.{Call, CallIndirect, RefFunc, SelectTyped};
 ghost use Rattle.wasm_check.specs.Contexts.{Context};
-ghost use Rattle.wasm_check.specs.Runs.{known};
-ghost use Rattle.wasm_check.specs.Checker.{Answers, acts as acts_of};
-ghost use Rattle.wasm_check.specs.Kept.{context};
+ghost use Rattle.wasm_check.specs.code.Runs.{known};
+ghost use Rattle.wasm_check.specs.code.Checker.{Answers, acts as acts_of};
+ghost use Rattle.wasm_check.specs.code.Kept.{context};
 
 use crate::act::{applies, applies_lists};
 use crate::scope::Scope;

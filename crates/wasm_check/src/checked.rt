@@ -4,7 +4,8 @@ ghost use Rattle.wasm_ast.specs.Shape.{HasShape};
 ghost use Rattle.wasm_check.specs.declared.sections.Section.TheVariants.{Functions, Code};
 ghost use Rattle.wasm_check.specs.Modules.{SectionIsValid, IsValid};
 ghost use Rattle.wasm_check.specs.Faults.{FirstFault, ValidBelow};
-ghost use Rattle.wasm_check.specs.Spaces.{AreSpacesOf, IsFieldFault};
+ghost use Rattle.wasm_check.specs.Spaces.{AreSpacesOf};
+ghost use Rattle.wasm_check.specs.code.Sections.{IsFieldFault};
 
 use crate::declared::declared_of;
 use crate::fields::first_invalid;

@@ -1,42 +1,91 @@
 // Constant expressions (Validation, Instructions: Constant Expressions).
-ghost use Rattle.std.specs.Prelude.{◌≡◌, ◌↔◌, [], ◌∷◌, IsTrue, MatchOption, All};
+ghost use Rattle.std.specs.Prelude.{◌≡◌, ◌↔◌, ◌<◌, ◌^◌, ◌∷◌, [], List as Instrs, IsTrue, MatchOption, All};
 ghost use Rattle.wasm_ast.specs.declared.instructions.Instr.{Instr as AnInstr};
-ghost use Rattle.wasm_check.specs.Constants.{Gives, IsConstant};
+ghost use Rattle.wasm_check.specs.Constants.{IsConstant};
+ghost use Rattle.wasm_check.specs.code.Counts.{puts as puts_one, combines as combines_two, depth_after as depth_of, leaves_one as leaves_only_one};
 
-use wasm_ast::{Expr, GlobalType, Instr, ValType};
+use crate::numbers::is_from;
+use crate::stack::same;
+use wasm_ast::{Expr, GlobalType, Instr, List, ValType};
 
-fn gives(funcs: usize, globals: &[GlobalType], instr: &Instr, kind: ValType) -> bool
-    ensures { IsTrue result ↔ Gives funcs globals.now instr.now kind }
+// Whether the instruction puts a constant of the type on the operands.
+fn puts(funcs: usize, globals: &[GlobalType], instr: &Instr, kind: ValType) -> bool
+    ensures { result ≡ puts_one funcs globals.now instr.now kind }
 {
     match instr {
-        Instr::Const32(_) => kind == ValType::I32,
-        Instr::Const64(_) => kind == ValType::I64,
-        Instr::RefNull(null) => kind == *null,
-        Instr::RefFunc(x) => kind == ValType::FuncRef && (*x as usize) < funcs,
-        Instr::GlobalGet(x) => is_immutable(globals, *x, kind),
+        Instr::Const32(_) => same(ValType::I32, kind),
+        Instr::Const64(_) => same(ValType::I64, kind),
+        Instr::RefNull(null) => same(*null, kind),
+        Instr::RefFunc(x) => same(ValType::FuncRef, kind) && (*x as usize) < funcs,
+        Instr::GlobalGet(x) => match globals.get(*x as usize) {
+            None => false,
+            Some(ty) => same(ty.kind, kind) && !ty.mutable,
+        },
         _ => false,
     }
 }
 
-// Whether the global of this number is of this type and can't be set.
-fn is_immutable(globals: &[GlobalType], x: u32, kind: ValType) -> bool
-    ensures { IsTrue result ↔ Gives 0 globals.now (Instr.GlobalGet x) kind }
+// Whether the operator is constant, and takes and gives the type.
+fn combines(op: u8, kind: ValType) -> bool
+    ensures { result ≡ combines_two op kind }
 {
-    match globals.get(x as usize) {
-        None => false,
-        Some(ty) => ty.kind == kind && !ty.mutable,
+    match kind {
+        ValType::I32 => is_from(0x6A, 0x6C, op),
+        ValType::I64 => is_from(0x7C, 0x7E, op),
+        ValType::FuncRef => false,
+        ValType::ExternRef => false,
     }
 }
 
-// The instruction of an expression that has only one.
-fn only_instr(e: &Expr) -> Option<&Instr>
-    ensures { MatchOption result ((i : AnInstr) → e.now.seqs ≡ (i ∷ []) ∷ [] → ⊥) (λ i. e.now.seqs ≡ (i.now ∷ []) ∷ []) }
+// How many operands there are after the instruction, all of the type, where there were `depth`; none where it isn't such an
+// instruction or operands are missing.
+fn depth_after(
+    funcs: usize,
+    globals: &[GlobalType],
+    kind: ValType,
+    depth: usize,
+    instr: &Instr,
+) -> Option<usize>
+    requires { depth < 2 ^ 63 }
+    ensures { result ≡ depth_of funcs globals.now kind depth instr.now }
+{
+    match instr {
+        Instr::Num(op) => {
+            if !combines(*op, kind) {
+                return None;
+            }
+            if 1 < depth { Some(depth - 1) } else { None }
+        }
+        _ => {
+            if puts(funcs, globals, instr, kind) {
+                Some(depth + 1)
+            } else {
+                None
+            }
+        }
+    }
+}
+
+// Whether the instructions are constant, and leave one operand of the type where there was none.
+fn leaves_one(funcs: usize, globals: &[GlobalType], kind: ValType, instrs: &[Instr]) -> bool
+    ensures { result ≡ leaves_only_one funcs globals.now kind instrs.now 0 }
+{
+    let mut depth = 0;
+    for instr in instrs {
+        match depth_after(funcs, globals, kind, depth, instr) {
+            None => return false,
+            Some(after) => depth = after,
+        }
+    }
+    depth == 1
+}
+
+// The sequence of an expression that has only one.
+fn only_sequence(e: &Expr) -> Option<&List<Instr>>
+    ensures { MatchOption result ((instrs : Instrs AnInstr) → e.now.seqs ≡ instrs ∷ [] → ⊥) (λ instrs. e.now.seqs ≡ instrs.now ∷ []) }
 {
     match e.seqs.as_slice() {
-        [instrs] => match instrs.as_slice() {
-            [instr] => Some(instr),
-            _ => None,
-        },
+        [instrs] => Some(instrs),
         _ => None,
     }
 }
@@ -46,9 +95,9 @@ fn only_instr(e: &Expr) -> Option<&Instr>
 pub fn is_constant(funcs: usize, globals: &[GlobalType], e: &Expr, kind: ValType) -> bool
     ensures { IsTrue result ↔ IsConstant funcs globals.now e.now kind }
 {
-    match only_instr(e) {
+    match only_sequence(e) {
         None => false,
-        Some(instr) => gives(funcs, globals, instr, kind),
+        Some(instrs) => leaves_one(funcs, globals, kind, instrs.as_slice()),
     }
 }
 

@@ -2,7 +2,7 @@
 ghost use Rattle.std.specs.Prelude.{◌==◌, IfOk};
 ghost use Rattle.std.specs.List.{list_any};
 ghost use Rattle.wasm_check.specs.Contexts.{is_ref_of, refers_to, exports_func};
-ghost use Rattle.wasm_check.specs.Spaces.{Marks, AreDeclared};
+ghost use Rattle.wasm_check.specs.code.Sections.{Marks, AreDeclared};
 
 use std::alloc::{AllocError, Global};
 use wasm_ast::{Elem, Export, Expr, GlobalDef, Instr, Module, Space};

@@ -1,8 +1,8 @@
 // The rules of entries, bodies aside (Validation, Modules).
-ghost use Rattle.std.specs.Prelude.{◌≡◌, ◌↔◌, ◌<◌, ◌≤◌, [], IsTrue, All, length, slice_get};
+ghost use Rattle.std.specs.Prelude.{◌≡◌, ◌↔◌, ◌+◌, ◌<◌, ◌≤◌, [], IsTrue, All, length, slice_get};
 ghost use Rattle.wasm_check.specs.Modules.{ImportNoMemory, ImportIsValid, IsType, MemoryIsValid, space_size as space_size_of, GlobalIsValid, StartIsValid, IsOffset, HasTable, ElemModeIsValid, ElemIsValid, DataModeIsValid};
 ghost use Rattle.wasm_check.specs.Constants.{IsConstant};
-ghost use Rattle.wasm_check.specs.Contexts.{funcs_of, globals_of};
+ghost use Rattle.wasm_check.specs.Contexts.{funcs_of, globals_of, imported_globals};
 ghost use Rattle.wasm_check.specs.Spaces.{AreSpacesOf};
 
 use crate::constants::{are_constant, is_constant};
@@ -55,13 +55,24 @@ pub fn memory_is_valid(m: &Module, k: usize, limits: Limits) -> bool
     is_memory_type(limits) && k == 0 && import_no_memory(m.imports.as_slice())
 }
 
-/// Whether the first value of a global is a constant of its type.
-pub fn global_is_valid(m: &Module, spaces: &Spaces, global: &GlobalDef) -> bool
-    requires { AreSpacesOf m.now spaces.now }
-    ensures { IsTrue result ↔ GlobalIsValid m.now global.now }
+// How many globals stand before the entry `k` of the globals.
+fn globals_before(m: &Module, spaces: &Spaces, k: usize) -> usize
+    requires spaces { AreSpacesOf m.now spaces.now }
+    requires here { k < length m.now.globals }
+    ensures number { result ≡ length (imported_globals m.now) + k }
+    ensures within { result ≤ length spaces.now.globals.items }
 {
-    let imported = spaces.imported_globals.as_slice();
-    is_constant(spaces.funcs.len(), imported, &global.init, global.ty.kind)
+    spaces.globals.len() - m.globals.len() + k
+}
+
+/// Whether the first value of the entry `k` of the globals is a constant of its type.
+pub fn global_is_valid(m: &Module, spaces: &Spaces, k: usize, global: &GlobalDef) -> bool
+    requires spaces { AreSpacesOf m.now spaces.now }
+    requires here { k < length m.now.globals }
+    ensures { IsTrue result ↔ GlobalIsValid m.now k global.now }
+{
+    let before = &spaces.globals.as_slice()[..globals_before(m, spaces, k)];
+    is_constant(spaces.funcs.len(), before, &global.init, global.ty.kind)
 }
 
 fn space_size(m: &Module, spaces: &Spaces, space: Space) -> usize

@@ -3,7 +3,8 @@ ghost use Rattle.std.specs.Prelude.{◌≡◌, ◌≢◌, ◌↔◌, ◌<◌, �
 ghost use Rattle.wasm_check.specs.declared.sections.Section.TheVariants.{Imports, Functions, Tables, Memories, Globals, Exports, Start, Elements, Code, Data};
 ghost use Rattle.wasm_check.specs.Modules.{EntryIsValid, SectionIsValid};
 ghost use Rattle.wasm_check.specs.Faults.{IsFirstOf};
-ghost use Rattle.wasm_check.specs.Spaces.{AreSpacesOf, section_size as section_size_of};
+ghost use Rattle.wasm_check.specs.Spaces.{AreSpacesOf};
+ghost use Rattle.wasm_check.specs.code.Sections.{section_size as section_size_of};
 
 use crate::entries::{
     elem_is_valid, func_is_valid, global_is_valid, import_is_valid, memory_is_valid,
@@ -54,7 +55,7 @@ fn global_entry(m: &Module, spaces: &Spaces, k: usize) -> bool
     ensures { IsTrue result ↔ EntryIsValid m.now Globals k }
 {
     let global = m.globals.get(k);
-    global_is_valid(m, spaces, global)
+    global_is_valid(m, spaces, k, global)
 }
 
 fn elem_entry(m: &Module, spaces: &Spaces, k: usize) -> bool

@@ -5,16 +5,16 @@ ghost use Rattle.wasm_check.specs.declared.sections.Section.TheVariants.{Functio
 ghost use Rattle.wasm_check.specs.Contexts.{funcs_of};
 ghost use Rattle.wasm_check.specs.Modules.{IsType, BodyIsValid, SectionIsValid};
 ghost use Rattle.wasm_check.specs.Faults.{BodyFailsAt};
-ghost use Rattle.wasm_check.specs.Spaces.{AreSpacesOf, AreDeclared, FailsIn};
+ghost use Rattle.wasm_check.specs.Spaces.{AreSpacesOf};
+ghost use Rattle.wasm_check.specs.code.Sections.{AreDeclared, FailsIn};
 
 use crate::body::body_fault;
-use crate::ends::Ends;
-use crate::lists::Lists;
 use crate::locals::Locals;
 use crate::scope::Scope;
 use crate::spaces::Spaces;
 use crate::uses::uses_of;
 use std::alloc::{AllocError, Global};
+use type_suffixes::{Ends, Lists};
 use wasm_ast::{Func, Module};
 
 /// The place of the first fault of the function's body.

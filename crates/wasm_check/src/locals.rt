@@ -1,7 +1,7 @@
 // The locals of a function that aren't parameters, by number.
 ghost use Rattle.std.specs.Prelude.{◌≡◌, ◌≤◌, IfOk, length, sum_by, slice_get};
 ghost use Rattle.wasm_check.specs.Contexts.{locals_of};
-ghost use Rattle.wasm_check.specs.Spaces.{AreEnds, IsGroupOf};
+ghost use Rattle.wasm_check.specs.code.Sections.{AreEnds, IsGroupOf};
 
 use std::alloc::{AllocError, Global};
 use std::marker::Model;
@@ -20,7 +20,7 @@ impl<'a> Model for Locals<'a> {
     ghost use Rattle.std.specs.Prelude.{List, length};
     ghost use Rattle.wasm_ast.specs.declared.types.ValType.{ValType};
     ghost use Rattle.wasm_check.specs.Contexts.{locals_of};
-    ghost use Rattle.wasm_check.specs.Spaces.{AreEnds};
+    ghost use Rattle.wasm_check.specs.code.Sections.{AreEnds};
 
     ghost Value = { List ValType };
 

@@ -2,9 +2,9 @@
 ghost use Rattle.std.specs.Prelude.{◌≡◌, ◌<◌, [], IfOk};
 ghost use Rattle.wasm_ast.specs.declared.instructions.Instr.TheVariants.{Load, Store, MemorySize, MemoryGrow, MemoryInit, DataDrop, MemoryCopy, MemoryFill};
 ghost use Rattle.wasm_check.specs.Operators.{accessed_type as accessed_type_of, accessed_bytes as accessed_bytes_of};
-ghost use Rattle.wasm_check.specs.Runs.{known};
-ghost use Rattle.wasm_check.specs.Checker.{Answers, acts as acts_of, is_aligned as is_aligned_to};
-ghost use Rattle.wasm_check.specs.Kept.{context};
+ghost use Rattle.wasm_check.specs.code.Runs.{known};
+ghost use Rattle.wasm_check.specs.code.Checker.{Answers, acts as acts_of, is_aligned as is_aligned_to};
+ghost use Rattle.wasm_check.specs.code.Kept.{context};
 
 use crate::act::applies;
 use crate::numbers::is_from;

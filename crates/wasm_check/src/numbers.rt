@@ -3,8 +3,8 @@ ghost use Rattle.std.specs.Prelude.{◌≡◌, [], IfOk};
 ghost use Rattle.wasm_ast.specs.Opcodes.{is_from as is_from_to};
 ghost use Rattle.wasm_ast.specs.declared.instructions.Instr.TheVariants.{Num};
 ghost use Rattle.wasm_check.specs.Contexts.{Context};
-ghost use Rattle.wasm_check.specs.Runs.{known};
-ghost use Rattle.wasm_check.specs.Checker.{Answers, acts as acts_of};
+ghost use Rattle.wasm_check.specs.code.Runs.{known};
+ghost use Rattle.wasm_check.specs.code.Checker.{Answers, acts as acts_of};
 
 use crate::act::applies;
 use crate::scope::Scope;

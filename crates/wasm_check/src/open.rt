@@ -5,16 +5,15 @@ ghost use Rattle.wasm_check.specs.declared.operands.Operand.TheVariants.{Of};
 ghost use Rattle.wasm_check.specs.Operands.{operands};
 ghost use Rattle.wasm_check.specs.Operators.{arrow};
 ghost use Rattle.wasm_check.specs.Contexts.{Context};
-ghost use Rattle.wasm_check.specs.Lists.{listed};
-ghost use Rattle.wasm_check.specs.Runs.{known, open_of, open_seqs, labels_in};
-ghost use Rattle.wasm_check.specs.Carried.{SeenPass, CanCarry, CanTake, Decide};
-ghost use Rattle.wasm_check.specs.Checker.{Answers, SomeBy, Open, when, each_fits, acts as acts_of, finished as finished_of, finished_other, opened as opened_of, opens as opens_of, turns as turns_of, ends as ends_of};
+ghost use Rattle.type_suffixes.specs.Lists.{listed};
+ghost use Rattle.wasm_check.specs.code.Runs.{known, open_of, open_seqs, labels_in};
+ghost use Rattle.wasm_check.specs.code.Carried.{SeenPass, CanCarry, CanTake, Decide};
+ghost use Rattle.wasm_check.specs.code.Checker.{Answers, SomeBy, Open, when, each_fits, acts as acts_of, finished as finished_of, finished_other, opened as opened_of, opens as opens_of, turns as turns_of, ends as ends_of};
 
-use crate::carried::Seen;
-use crate::lists::Listed;
 use crate::scope::Scope;
 use crate::stack::Stack;
 use std::alloc::{AllocError, Global};
+use type_suffixes::{Listed, Seen};
 use wasm_ast::ValType;
 
 /// An open sequence: what a branch to its label carries, what it takes and gives, whether it is the first part of an

@@ -1,12 +1,11 @@
 // What the checker does with an instruction that has no sequence inside it.
 ghost use Rattle.std.specs.Prelude.{IfOk};
-ghost use Rattle.wasm_check.specs.Runs.{known, labels_in};
-ghost use Rattle.wasm_check.specs.Checker.{Answers, acts as acts_of};
-ghost use Rattle.wasm_check.specs.Kept.{context};
+ghost use Rattle.wasm_check.specs.code.Runs.{known, labels_in};
+ghost use Rattle.wasm_check.specs.code.Checker.{Answers, acts as acts_of};
+ghost use Rattle.wasm_check.specs.code.Kept.{context};
 
 use crate::act::{applies, discard, leaves, may_leave, ref_is_null, select};
 use crate::calls::{call, call_indirect, ref_func, select_typed};
-use crate::lists::Listed;
 use crate::memories::{
     data_drop, load, memory_copy, memory_fill, memory_grow, memory_init, memory_size, store,
 };
@@ -19,6 +18,7 @@ use crate::tables::{
 };
 use crate::variables::{global_get, global_set, local_get, local_set, local_tee};
 use std::alloc::{AllocError, Global};
+use type_suffixes::Listed;
 use wasm_ast::{Instr, ValType};
 
 /// The instruction, in a sequence whose label is `own`, inside the sequences `outer`. The answer is whether it is typed; if

@@ -1,17 +1,16 @@
 // The context of a function's body, as slices of what the module and the function say.
 ghost use Rattle.std.specs.Prelude.{◌≡◌, MatchOption, None, Some, nat_lt, reverse, slice_get, take, true};
 ghost use Rattle.wasm_check.specs.Operators.{arrow};
-ghost use Rattle.type_words.specs.Words.{EndsWith};
-ghost use Rattle.wasm_check.specs.Lists.{listed};
+ghost use Rattle.type_suffixes.specs.Words.{EndsWith};
+ghost use Rattle.type_suffixes.specs.Lists.{listed};
 ghost use Rattle.wasm_check.specs.Contexts.{func_type, block_type};
-ghost use Rattle.wasm_check.specs.Checker.{has_memory as has_memory_in};
-ghost use Rattle.wasm_check.specs.Kept.{context, kept_of};
+ghost use Rattle.wasm_check.specs.code.Checker.{has_memory as has_memory_in};
+ghost use Rattle.wasm_check.specs.code.Kept.{context, kept_of};
 
-use crate::ends::Ends;
-use crate::lists::Listed;
 use crate::locals::Locals;
 use crate::spaces::Spaces;
 use std::marker::Model;
+use type_suffixes::{Ends, Listed};
 use wasm_ast::{BlockType, FuncType, GlobalType, Module, TableType, ValType};
 
 /// The context of a function's body (Validation, Conventions: Contexts).
@@ -28,7 +27,7 @@ pub struct Scope<'a> {
 
 impl<'a> Model for Scope<'a> {
     ghost use Rattle.std.specs.Prelude.{◌≡◌, Some, slice_get};
-    ghost use Rattle.wasm_check.specs.Kept.{Kept, kept_of};
+    ghost use Rattle.wasm_check.specs.code.Kept.{Kept, kept_of};
 
     ghost Value = { Kept };
 

@@ -1,6 +1,6 @@
 // The index spaces of a module (Structure, Modules: Indices).
 ghost use Rattle.std.specs.Prelude.{◌≡◌, IfOk};
-ghost use Rattle.wasm_check.specs.Contexts.{func_import as func_import_of, table_import as table_import_of, memory_import as memory_import_of, global_import as global_import_of, funcs_of as module_funcs, tables_of as module_tables, memories_of as module_memories, imported_globals as module_imported_globals, globals_of as module_globals};
+ghost use Rattle.wasm_check.specs.Contexts.{func_import as func_import_of, table_import as table_import_of, memory_import as memory_import_of, global_import as global_import_of, funcs_of as module_funcs, tables_of as module_tables, memories_of as module_memories, globals_of as module_globals};
 ghost use Rattle.wasm_check.specs.Spaces.{AreSpacesOf};
 
 use std::alloc::{AllocError, Global};
@@ -82,16 +82,6 @@ fn memories_of(alloc: Global, m: &Module) -> Result<Vec<Limits>, AllocError>
         .collect(alloc)
 }
 
-fn imported_globals_of(alloc: Global, m: &Module) -> Result<Vec<GlobalType>, AllocError>
-    ensures { IfOk result (λ v. v.items ≡ module_imported_globals m.now) }
-{
-    m.imports
-        .as_slice()
-        .iter()
-        .filter_map(|i| global_import(i.kind))
-        .collect(alloc)
-}
-
 fn globals_of(alloc: Global, m: &Module) -> Result<Vec<GlobalType>, AllocError>
     ensures { IfOk result (λ v. v.items ≡ module_globals m.now) }
 {
@@ -113,8 +103,6 @@ pub struct Spaces {
     pub tables: Vec<TableType>,
     pub memories: Vec<Limits>,
     pub globals: Vec<GlobalType>,
-    /// The imported globals alone.
-    pub imported_globals: Vec<GlobalType>,
 }
 
 /// The index spaces of the module.
@@ -125,12 +113,10 @@ pub fn spaces_of(alloc: Global, m: &Module) -> Result<Spaces, AllocError>
     let tables = tables_of(alloc, m)?;
     let memories = memories_of(alloc, m)?;
     let globals = globals_of(alloc, m)?;
-    let imported_globals = imported_globals_of(alloc, m)?;
     Ok(Spaces {
         funcs,
         tables,
         memories,
         globals,
-        imported_globals,
     })
 }

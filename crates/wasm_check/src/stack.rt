@@ -3,15 +3,16 @@
 ghost use Rattle.std.specs.Prelude.{◌≡◌, ◌≤◌, ◌∷◌, [], ◌++◌, ◌⊎◌, Bool, List, true, false, IfOk, MatchOption, None, Some, take, drop, length};
 ghost use Rattle.wasm_check.specs.declared.stack.Run.TheVariants.{First};
 ghost use Rattle.wasm_check.specs.Operands.{operands};
-ghost use Rattle.wasm_check.specs.Lists.{listed};
-ghost use Rattle.wasm_check.specs.Runs.{run_of, known, peeked};
-ghost use Rattle.wasm_check.specs.Carried.{HangsOn};
-ghost use Rattle.wasm_check.specs.Checker.{Answers, dead_end, onto, pop_of, popped, same_type, fits, is_empty as no_operands};
+ghost use Rattle.type_suffixes.specs.Lists.{listed};
+ghost use Rattle.wasm_check.specs.code.Runs.{run_of, known, peeked};
+ghost use Rattle.wasm_check.specs.code.Carried.{HangsOn};
+ghost use Rattle.wasm_check.specs.code.Checker.{Answers, dead_end, onto, pop_of, popped, fits, is_empty as no_operands};
+ghost use Rattle.wasm_check.specs.Operands.{same_type};
 
-use crate::lists::Listed;
 use crate::operands::Operand;
 use crate::scope::Scope;
 use std::alloc::{AllocError, Global};
+use type_suffixes::Listed;
 use wasm_ast::ValType;
 
 /// Operands one after another.

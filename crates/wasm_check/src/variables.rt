@@ -1,9 +1,9 @@
 // What the checker does with variable instructions (Validation, Instructions: Variable Instructions).
 ghost use Rattle.std.specs.Prelude.{[], IfOk};
 ghost use Rattle.wasm_ast.specs.declared.instructions.Instr.TheVariants.{LocalGet, LocalSet, LocalTee, GlobalGet, GlobalSet};
-ghost use Rattle.wasm_check.specs.Runs.{known};
-ghost use Rattle.wasm_check.specs.Checker.{Answers, acts as acts_of};
-ghost use Rattle.wasm_check.specs.Kept.{context};
+ghost use Rattle.wasm_check.specs.code.Runs.{known};
+ghost use Rattle.wasm_check.specs.code.Checker.{Answers, acts as acts_of};
+ghost use Rattle.wasm_check.specs.code.Kept.{context};
 
 use crate::act::applies;
 use crate::scope::Scope;

@@ -1,7 +1,7 @@
 // A walk through the numbered sequences of an expression, in the order in which they are written.
 ghost use Rattle.std.specs.Prelude.{◌≡◌, ◌<◌, ◌+◌, ◌^◌, List as Items, slice_get, reverse, IfOk, MatchOption, Some, None, [], ◌∷◌, ◌++◌};
 ghost use Rattle.wasm_check.specs.Trees.{Token, seq_of};
-ghost use Rattle.wasm_check.specs.Walk.{Left, NextIs, opened_by};
+ghost use Rattle.wasm_check.specs.code.Walk.{Left, NextIs, opened_by};
 
 use std::alloc::{AllocError, Global};
 use wasm_ast::{Instr, List};

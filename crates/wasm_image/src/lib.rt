@@ -17,6 +17,3 @@ pub use hosts::Host;
 pub use images::Image;
 pub use imports::unlinked;
 pub use sizes::{Large, too_large};
-
-#[cfg(test)]
-mod tests;

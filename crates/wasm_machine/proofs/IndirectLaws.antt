@@ -10,7 +10,7 @@ use Rattle.wasm_ast.specs.declared.instructions.Instr.TheVariants.{CallIndirect}
 use Rattle.wasm_ast.specs.declared.runs.Cause.TheVariants.{Undefined, Uninitialized, Mismatch}
 use Rattle.wasm_ast.specs.declared.modules.Module.{Module}
 use Rattle.wasm_rules.specs.Words.{Kind, Kept}
-use Rattle.wasm_check.specs.Checker.{same_type}
+use Rattle.wasm_check.specs.Operands.{same_type}
 use Rattle.wasm_image.specs.Functions.{function_count, function_type}
 use Rattle.wasm_reduction.specs.Configurations.{Reference, FuncRef, Config, Next}
 use Rattle.wasm_reduction.specs.Combinators.{with_found, with_word}

@@ -4,7 +4,7 @@ use Rattle.std.proofs.lemmas.Bool.Decides.{nat_tests}
 use Rattle.wasm_ast.specs.Opcodes.{is_from}
 use Rattle.std.specs.Prelude.{◌==◌}
 use Rattle.std.proofs.lemmas.Bool.{ne_eqb}
-use Rattle.owi_base.specs.Forms.{Window}
+use Rattle.grammar_forms.specs.Forms.{Window}
 use Rattle.wasm_binary.specs.Faults.{Fault}
 use Rattle.wasm_binary.specs.Instructions.{plain}
 use Rattle.wasm_read.specs.Accesses.{access}

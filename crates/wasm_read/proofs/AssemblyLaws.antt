@@ -3,12 +3,12 @@ use Rattle.std.proofs.Common.{◌≡◌, ℕ, zero, suc, ◌+◌, ◌-◌, ◌�
 use Rattle.std.specs.Prelude.{◌==◌, min}
 use Rattle.std.specs.List.{zip}
 use Rattle.std.proofs.lemmas.Bool.{ne_eqb, cases_lt}
-use Rattle.owi_base.proofs.SignedReading.{passed}
 use Rattle.wasm_ast.specs.Sections.{is_written}
 use Rattle.wasm_ast.specs.declared.modules.Func.{Func}
 use Rattle.wasm_ast.specs.declared.modules.Module.{Module}
 use Rattle.wasm_binary.specs.Locals.{Code}
 use Rattle.wasm_binary.specs.Modules.{funcs_of, last_written}
+use Rattle.owi_base.proofs.Choices.{passed}
 
 abbrev pub func_of : ℕ × Code → Func
 func_of p = record { ty = p.0; locals = p.1.locals; body = p.1.body }

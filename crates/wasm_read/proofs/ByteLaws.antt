@@ -2,11 +2,11 @@
 use Rattle.std.proofs.Common.{◌≡◌, ℕ, zero, suc, ◌+◌, ◌-◌, ◌<◌, ◌≤◌, Bool, true, false, List, [], ◌∷◌, length, take, drop, Result, Ok, Err, Option, Some, IfSome, refl, sym, ap, subst, ◌∙◌, arith, length-drop}
 use Rattle.std.specs.Str.{is_utf8, IsUtf8}
 use Rattle.std.proofs.lemmas.Str.{IsUtf8-from_is_utf8, is_utf8-from_IsUtf8}
-use Rattle.owi_base.specs.Forms.{Window, any_byte, many, read_on, first_of_rest, located}
-use Rattle.owi_base.proofs.FormLaws.{after_text}
-use Rattle.owi_base.proofs.SignedReading.{taken, passed}
+use Rattle.grammar_forms.specs.Forms.{Window, any_byte, many, read_on, first_of_rest, located}
+use Rattle.grammar_forms.proofs.FormLaws.{after_text}
 use Rattle.wasm_binary.specs.Faults.{Fault, utf8}
 use Rattle.wasm_binary.specs.Values.{u32, text_of, name}
+use Rattle.owi_base.proofs.Choices.{taken, passed, is_false}
 
 abbrev Answer : Type 0 → Type 0
 Answer A = Result (A × ℕ) Fault
@@ -45,10 +45,6 @@ bytes_missing n w at o lt is =
     let P : Option Fault → Type 0 = λ p. IfSome p (λ fault. (many any_byte n).read w at ≡ Err fault) in
     subst P (sym is) (missing n w at (drop at w.bytes) refl (omega (arith, length-drop at w.bytes)))
 
-no_test : (b : Bool) → (b ≡ true → ⊥) → b ≡ false
-no_test true h = absurd (h refl)
-no_test false h = refl
-
 name_is : (w : Window Fault) (at count start : ℕ) (bytes : List ℕ) (next : ℕ) → u32.read w at ≡ Ok (count, start) → (many any_byte count).read w start ≡ Ok (bytes, next) → name.read w at ≡ located start next (text_of bytes)
 name_is w at count start bytes next e f =
     ap (λ (r : Answer ℕ). read_on r (λ n mid. read_on ((many any_byte n).read w mid) (λ l last. located mid last (text_of l)))) e
@@ -63,4 +59,4 @@ name_read w at count start bytes next e f is =
 pub name_refused : (w : Window Fault) (at count start : ℕ) (bytes : List ℕ) (next : ℕ) → u32.read w at ≡ Ok (count, start) → (many any_byte count).read w start ≡ Ok (bytes, next) → (IsUtf8 bytes → ⊥) → name.read w at ≡ Err (utf8 start)
 name_refused w at count start bytes next e f is =
     name_is w at count start bytes next e f
-    ∙ ap (located start next) (passed (is_utf8 bytes) (let r : Result (List ℕ) (ℕ → Fault) = Ok bytes in r) (Err utf8) (no_test (is_utf8 bytes) (λ h. is (IsUtf8-from_is_utf8 bytes h))))
+    ∙ ap (located start next) (passed (is_utf8 bytes) (let r : Result (List ℕ) (ℕ → Fault) = Ok bytes in r) (Err utf8) (is_false (is_utf8 bytes) (λ h. is (IsUtf8-from_is_utf8 bytes h))))

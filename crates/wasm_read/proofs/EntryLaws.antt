@@ -1,6 +1,6 @@
 -- Reading the entries of a vector one after another.
 use Rattle.std.proofs.Common.{◌≡◌, ℕ, suc, ◌+◌, ◌-◌, ◌<◌, List, [], ◌∷◌, ◌++◌, Result, Ok, Err, Option, Some, None, IfSome, refl, sym, ap, ◌∙◌, arith, append_assoc}
-use Rattle.owi_base.specs.Forms.{Window, Form, many, read_on}
+use Rattle.grammar_forms.specs.Forms.{Window, Form, many, read_on}
 use Rattle.wasm_binary.specs.Faults.{Fault}
 
 abbrev Answer : Type 0 → Type 0

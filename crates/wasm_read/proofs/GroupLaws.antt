@@ -3,30 +3,20 @@ use Rattle.std.proofs.Common.{◌≡◌, ℕ, suc, ◌+◌, ◌-◌, ◌<◌, �
 use Rattle.std.specs.Prelude.{◌==◌, if◌then◌else◌}
 use Rattle.std.proofs.lemmas.List.{reverse-append}
 use Rattle.std.proofs.lemmas.List.Elements.{All-append, All-push}
-use Rattle.owi_base.specs.Forms.{Window, read_on}
-use Rattle.owi_base.proofs.SignedReading.{taken, passed}
+use Rattle.grammar_forms.specs.Forms.{Window, read_on}
 use Rattle.wasm_ast.specs.declared.types.ValType.{ValType}
 use Rattle.wasm_ast.specs.declared.types.ValType.TheVariants.{I32, I64, FuncRef, ExternRef}
 use Rattle.wasm_ast.specs.declared.modules.Group.{Group}
 use Rattle.wasm_binary.specs.Faults.{Fault}
 use Rattle.wasm_binary.specs.Locals.{same_kind, group, groups, joined, with_front}
 use Rattle.wasm_read.specs.Groups.{put_some, put_group, joined_groups}
+use Rattle.owi_base.proofs.Choices.{taken, passed, either}
+use Rattle.wasm_binary.proofs.KindLaws.{same_kind_is, same_kind_self}
 
 -- ---- one group after another, and joined at once
 
 abbrev kind_of : ℕ → ValType → Group
 kind_of n kind = record { count = n; kind = kind }
-
-same_is : (a b : ValType) → same_kind a b ≡ true → a ≡ b
-same_is I32 I32 e = refl
-same_is I64 I64 e = refl
-same_is FuncRef FuncRef e = refl
-same_is ExternRef ExternRef e = refl
-same_is a b e = cc
-
-either : (b : Bool) → (b ≡ true) ⊎ (b ≡ false)
-either true = inl refl
-either false = inr refl
 
 -- the groups so far, latest first, before others that are joined
 abbrev before : List Group → List Group → List Group
@@ -38,12 +28,6 @@ abbrev pub put_all : List Group → List Group → List Group
 put_all done [] = done
 put_all done (g ∷ more) = put_all (put_group g done) more
 
-same_self : (k : ValType) → same_kind k k ≡ true
-same_self I32 = refl
-same_self I64 = refl
-same_self FuncRef = refl
-same_self ExternRef = refl
-
 front_same : (m : ℕ) (k : ValType) (x : Group) (xs : List Group) → same_kind k x.kind ≡ true → with_front (kind_of m k) (x ∷ xs) ≡ kind_of (m + x.count) x.kind ∷ xs
 front_same m k x xs e = taken (same_kind k x.kind) (kind_of (m + x.count) x.kind ∷ xs) (kind_of m k ∷ x ∷ xs) e
 
@@ -51,7 +35,7 @@ front_other : (m : ℕ) (k : ValType) (x : Group) (xs : List Group) → same_kin
 front_other m k x xs e = passed (same_kind k x.kind) (kind_of (m + x.count) x.kind ∷ xs) (kind_of m k ∷ x ∷ xs) e
 
 both_in_front : (m n : ℕ) (k : ValType) (xs : List Group) → with_front (kind_of m k) (with_front (kind_of n k) xs) ≡ with_front (kind_of (m + n) k) xs
-both_in_front m n k [] = front_same m k (kind_of n k) [] (same_self k)
+both_in_front m n k [] = front_same m k (kind_of n k) [] (same_kind_self k)
 both_in_front m n k (x ∷ xs) =
     elim (either (same_kind k x.kind)) [
       | inl same ↦
@@ -59,7 +43,7 @@ both_in_front m n k (x ∷ xs) =
           ap (with_front (kind_of m k)) (front_same n k x xs same) ∙ front_same m k (kind_of (n + x.count) x.kind) xs same
           ∙ ap (λ j. kind_of j x.kind ∷ xs) sum ∙ sym (front_same (m + n) k x xs same)
       | inr other ↦
-          ap (with_front (kind_of m k)) (front_other n k x xs other) ∙ front_same m k (kind_of n k) (x ∷ xs) (same_self k)
+          ap (with_front (kind_of m k)) (front_other n k x xs other) ∙ front_same m k (kind_of n k) (x ∷ xs) (same_kind_self k)
           ∙ sym (front_other (m + n) k x xs other)
     ]
 
@@ -70,7 +54,7 @@ some_before g (h ∷ done) xs =
     let apart : List Group = g ∷ h ∷ done in
     elim (either (same_kind h.kind g.kind)) [
       | inl same ↦
-          let kinds : h.kind ≡ g.kind = same_is h.kind g.kind same in
+          let kinds : h.kind ≡ g.kind = same_kind_is h.kind g.kind same in
           ap (λ l. before l xs) (taken (same_kind h.kind g.kind) joint apart same)
           ∙ ap (before done) (sym (both_in_front h.count g.count h.kind xs) ∙ ap (λ k. with_front h (with_front (kind_of g.count k) xs)) kinds)
       | inr other ↦ ap (λ l. before l xs) (passed (same_kind h.kind g.kind) joint apart other)

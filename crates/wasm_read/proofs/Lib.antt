@@ -7,10 +7,4 @@ pub mod NestLaws
 pub mod PassingLaws
 pub mod ReadingLaws
 pub mod SectionLaws
-pub mod ShapeOfBodies
-pub mod ShapeOfExpressions
-pub mod ShapeOfInstructions
-pub mod ShapeOfLists
-pub mod ShapeOfLocals
-pub mod ShapeOfModules
 pub mod WholeLaws

@@ -4,9 +4,9 @@ use Rattle.std.specs.Prelude.{◌==◌, ◌||◌, slice_set, if◌then◌else◌
 use Rattle.std.proofs.lemmas.List.{set-append_left, length-set}
 use Rattle.std.proofs.lemmas.List.Elements.{All-append, All-push}
 use Rattle.std.proofs.Math.Seq.{set-append_seam}
-use Rattle.owi_base.specs.Forms.{Window, read_on, ◌>>=◌, gives, checked, when◌form◌else◌}
-use Rattle.owi_base.proofs.FormLaws.{IsLawful, HasBytes, checked_has_bytes, checked_lawful, agrees}
-use Rattle.owi_base.proofs.SignedReading.{taken, passed}
+use Rattle.grammar_forms.specs.Forms.{Window, read_on, ◌>>=◌, gives, checked, when◌form◌else◌}
+use Rattle.grammar_forms.specs.Laws.{IsLawful, HasBytes}
+use Rattle.grammar_forms.proofs.FormLaws.{checked_has_bytes, checked_lawful, agrees}
 use Rattle.std.proofs.lemmas.Bool.Decides.{nat_tests}
 use Rattle.wasm_ast.specs.Opcodes.{is_from}
 use Rattle.wasm_ast.specs.declared.instructions.Instr.{Instr}
@@ -17,11 +17,12 @@ use Rattle.wasm_binary.specs.Values.{Grammar}
 use Rattle.wasm_binary.specs.Types.{block_type}
 use Rattle.wasm_binary.specs.Instructions.{Opcode, opcode, Around, allowed, plain, Sequence, Sequences, WithInside, empty_sequence, all_of, block_of, if_of, instruction, is_last, before, after_opcode, sequence_below, expression}
 use Rattle.wasm_binary.proofs.GrammarLaws.{sequence_lawful, sequence_in, opcode_lawful, opcode_has_bytes}
-use Rattle.wasm_read.specs.declared.waiting.Opener.{Opener}
-use Rattle.wasm_read.specs.declared.waiting.Opener.TheVariants.{Block as BlockOpens, Loop as LoopOpens, Then, Else}
+use Rattle.wasm_read.specs.declared.enclosing.Opener.{Opener}
+use Rattle.wasm_read.specs.declared.enclosing.Opener.TheVariants.{Block as BlockOpens, Loop as LoopOpens, Then, Else}
 use Rattle.wasm_read.specs.declared.bad.ReadBad.{ReadBad}
 use Rattle.wasm_read.specs.Refusals.{fault_of}
-use Rattle.wasm_read.specs.Nests.{Waiting, Seqs, Nest, IsNest, LeadsTo, first_nest, pushed, opened, written, back_in, closed_in, is_then, in_if, sequences_of, Answer, rest_of, ended_by, ending, rest, around, after, turned, closed_to, closed, is_alone, opener_for}
+use Rattle.wasm_read.specs.Nests.{Enclosing, Seqs, Nest, IsNest, LeadsTo, first_nest, pushed, opened, written, back_in, closed_in, is_then, in_if, sequences_of, Answer, rest_of, ended_by, ending, rest, around, after, turned, closed_to, closed, is_alone, opener_for}
+use Rattle.owi_base.proofs.Choices.{taken, passed, either}
 
 -- ---- one after another
 
@@ -115,7 +116,7 @@ entered w has_data_count n o at =
     ∙ on_same ((sequences_of w has_data_count (is_then o) (length n.seqs + 1)).read w at) raw (λ s next. goes s (n.seqs ++ all_of s) next)
     (λ s next. ap (λ (l : Seqs). goes s l next) (seam n.seqs s))
 
-ended_closed : (w : Window Fault) (has_data_count : Bool) (o : Opener) (v : Waiting) (outer : List Waiting) (number : ℕ) (by_else : Bool) (seqs : Seqs) (at : ℕ)
+ended_closed : (w : Window Fault) (has_data_count : Bool) (o : Opener) (v : Enclosing) (outer : List Enclosing) (number : ℕ) (by_else : Bool) (seqs : Seqs) (at : ℕ)
     → ended_by w has_data_count o (rest_of w has_data_count (in_if outer) v.number (ending w has_data_count outer)) v.instrs number by_else seqs at ≡ rest w has_data_count (closed_in o v outer number by_else seqs) at
 unfolding rest
 ended_closed w has_data_count (BlockOpens ty) v outer number by_else seqs at = refl
@@ -126,7 +127,7 @@ ended_closed w has_data_count (Then ty) v outer number true seqs at =
     sym (entered w has_data_count (record { seqs = seqs; number = v.number; instrs = v.instrs ++ If ty number (length seqs) ∷ []; outer = outer }) Else at)
 
 -- an inner sequence ends
-pub closes : (w : Window Fault) (has_data_count : Bool) (v : Waiting) (outer : List Waiting) (number : ℕ) (by_else : Bool) (seqs : Seqs) (at : ℕ)
+pub closes : (w : Window Fault) (has_data_count : Bool) (v : Enclosing) (outer : List Enclosing) (number : ℕ) (by_else : Bool) (seqs : Seqs) (at : ℕ)
     → ending w has_data_count (v ∷ outer) number by_else seqs at ≡ rest w has_data_count (closed_in v.opener v outer number by_else seqs) at
 unfolding ending
 closes w has_data_count v outer number by_else seqs at = ended_closed w has_data_count v.opener v outer number by_else seqs at
@@ -299,10 +300,6 @@ if_next w has_data_count n op at lt not_last not_block not_loop is =
 
 -- ---- in short
 
-either : (b : Bool) → (b ≡ true) ⊎ (b ≡ false)
-either true = inl refl
-either false = inr refl
-
 not_last : (b : ℕ) → is_from 0x02 0x04 b ≡ true → (b == 0x0B || b == 0x05) ≡ false
 not_last b e = grind (arith, nat_tests, e)
 
@@ -344,7 +341,7 @@ plains w has_data_count n op at lt not_opens not_last =
       not_if = not_in_range op.first 0x04 not_opens (omega arith) (omega arith);
     })
 
-turns : (w : Window Fault) (has_data_count : Bool) (outer : List Waiting) (number : ℕ) (by_else : Bool) (seqs : Seqs) (at : ℕ)
+turns : (w : Window Fault) (has_data_count : Bool) (outer : List Enclosing) (number : ℕ) (by_else : Bool) (seqs : Seqs) (at : ℕ)
     → ending w has_data_count outer number by_else seqs at ≡ turned w has_data_count (closed_to outer number by_else seqs) (is_alone outer) at
 turns w has_data_count [] number by_else seqs at = all_end w has_data_count number by_else seqs at
 turns w has_data_count (v ∷ outer) number by_else seqs at = closes w has_data_count v outer number by_else seqs at
@@ -388,15 +385,15 @@ opcode_later w around at op next e =
 
 -- ---- each open sequence keeps its place
 
-abbrev HaveTheirPlace : Seqs → List Waiting → Type 0
+abbrev HaveTheirPlace : Seqs → List Enclosing → Type 0
 HaveTheirPlace seqs outer = All (λ v. v.number < length seqs) outer
 
-weaker : (seqs more : Seqs) (outer : List Waiting) → length seqs ≤ length more → HaveTheirPlace seqs outer → HaveTheirPlace more outer
+weaker : (seqs more : Seqs) (outer : List Enclosing) → length seqs ≤ length more → HaveTheirPlace seqs outer → HaveTheirPlace more outer
 weaker seqs more outer le h = λ i d lt. omega (arith, h i d lt)
 
-one_more_place : (seqs : Seqs) (v : Waiting) (outer : List Waiting) → v.number < length seqs → HaveTheirPlace seqs outer → HaveTheirPlace seqs (v ∷ outer)
+one_more_place : (seqs : Seqs) (v : Enclosing) (outer : List Enclosing) → v.number < length seqs → HaveTheirPlace seqs outer → HaveTheirPlace seqs (v ∷ outer)
 one_more_place seqs v outer lt h =
-    let P : Waiting → Type 0 = λ u. u.number < length seqs in
+    let P : Enclosing → Type 0 = λ u. u.number < length seqs in
     All-append P (v ∷ []) outer (All-push P [] v (λ i d none. absurd (omega arith)) lt) h
 
 pub opened_is_nest : (o : Opener) (n : Nest) → IsNest n → IsNest (opened o n)
@@ -407,10 +404,10 @@ opened_is_nest o n h = record {
       (weaker n.seqs (n.seqs ++ [] ∷ []) n.outer (omega (arith, one_longer n.seqs)) h.outer);
 }
 
-back_is_nest : (v : Waiting) (outer : List Waiting) (seqs : Seqs) (instrs : List Instr) → v.number < length seqs → HaveTheirPlace seqs outer → IsNest (back_in v outer seqs instrs)
+back_is_nest : (v : Enclosing) (outer : List Enclosing) (seqs : Seqs) (instrs : List Instr) → v.number < length seqs → HaveTheirPlace seqs outer → IsNest (back_in v outer seqs instrs)
 back_is_nest v outer seqs instrs lt h = record { inner = lt; outer = h }
 
-closed_in_is_nest : (o : Opener) (v : Waiting) (outer : List Waiting) (number : ℕ) (by_else : Bool) (seqs : Seqs) → v.number < length seqs → HaveTheirPlace seqs outer → IsNest (closed_in o v outer number by_else seqs)
+closed_in_is_nest : (o : Opener) (v : Enclosing) (outer : List Enclosing) (number : ℕ) (by_else : Bool) (seqs : Seqs) → v.number < length seqs → HaveTheirPlace seqs outer → IsNest (closed_in o v outer number by_else seqs)
 closed_in_is_nest (BlockOpens ty) v outer number by_else seqs lt h = back_is_nest v outer seqs (v.instrs ++ Block ty number ∷ []) lt h
 closed_in_is_nest (LoopOpens ty) v outer number by_else seqs lt h = back_is_nest v outer seqs (v.instrs ++ Loop ty number ∷ []) lt h
 closed_in_is_nest Else v outer number by_else seqs lt h = back_is_nest v outer seqs v.instrs lt h
@@ -419,7 +416,7 @@ closed_in_is_nest (Then ty) v outer number true seqs lt h =
 closed_in_is_nest (Then ty) v outer number false seqs lt h =
     back_is_nest v outer (seqs ++ [] ∷ []) (v.instrs ++ If ty number (length seqs) ∷ []) (omega (arith, lt, one_longer seqs)) (weaker seqs (seqs ++ [] ∷ []) outer (omega (arith, one_longer seqs)) h)
 
-closed_to_is_nest : (outer : List Waiting) (number : ℕ) (by_else : Bool) (seqs : Seqs) → number < length seqs → HaveTheirPlace seqs outer → IsNest (closed_to outer number by_else seqs)
+closed_to_is_nest : (outer : List Enclosing) (number : ℕ) (by_else : Bool) (seqs : Seqs) → number < length seqs → HaveTheirPlace seqs outer → IsNest (closed_to outer number by_else seqs)
 closed_to_is_nest [] number by_else seqs lt h = record { inner = lt; outer = λ i d none. absurd (omega arith) }
 closed_to_is_nest (v ∷ outer) number by_else seqs lt h =
     closed_in_is_nest v.opener v outer number by_else seqs (h 0 v (omega arith)) (λ i d less. h (suc i) d (omega (arith, less)))

@@ -2,13 +2,13 @@
 use Rattle.std.proofs.Common.{◌≡◌, ◌≢◌, ℕ, ◌+◌, ◌<◌, ◌≤◌, Bool, true, false, cond, List, [], ◌∷◌, ◌++◌, length, map, Result, Ok, Err, Option, Some, None, IfSome, refl, sym, ap, ◌∙◌}
 use Rattle.std.specs.Prelude.{◌==◌, MatchBool}
 use Rattle.std.proofs.lemmas.Bool.{ne_eqb}
-use Rattle.owi_base.specs.Forms.{Window, read_on, any_byte, checked, up_to, ends_at, left_over, when◌form◌else◌}
+use Rattle.grammar_forms.specs.Forms.{Window, read_on, any_byte, checked, up_to, ends_at, left_over, when◌form◌else◌}
 use Rattle.wasm_ast.specs.declared.modules.Custom.{Custom}
 use Rattle.wasm_ast.specs.declared.modules.Module.{Module}
 use Rattle.wasm_binary.specs.Faults.{Fault, size, count}
 use Rattle.wasm_binary.specs.Values.{Grammar, u32, vec}
 use Rattle.wasm_binary.specs.Types.{func_type, limits, table_type}
-use Rattle.wasm_binary.specs.Parts.{import, global, export, elem}
+use Rattle.wasm_binary.specs.SectionEntries.{import, global, export, elem}
 use Rattle.wasm_binary.specs.Modules.{Sections, no_sections, next_id, custom, code_section, data_section, into, contents, sized_contents, section, without_customs, settled, module_of}
 use Rattle.wasm_binary.specs.Reading.{segments_counted, counted}
 use Rattle.wasm_read.specs.Stripped.{Keeps, told}

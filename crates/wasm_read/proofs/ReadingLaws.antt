@@ -2,8 +2,8 @@
 use Rattle.std.proofs.Common.{◌≡◌, ℕ, suc, ◌-◌, ℤ, length, drop, Result, Ok, Err, Option, Some, IfSome, refl, sym, subst, arith}
 use Rattle.owi_base.specs.declared.leb.LebBad.{LebBad}
 use Rattle.owi_base.specs.Leb.{SpellsUnsigned, UnsignedTrouble, SpellsSigned, SignedTrouble}
-use Rattle.owi_base.specs.Forms.{Window, Between, unsigned, signed, said}
-use Rattle.owi_base.proofs.FormLaws.{reads_between, unsigned_lawful, signed_lawful}
+use Rattle.grammar_forms.specs.Forms.{Window, Between, unsigned, signed, said}
+use Rattle.grammar_forms.proofs.FormLaws.{reads_between, unsigned_lawful, signed_lawful}
 use Rattle.wasm_binary.specs.Faults.{Fault, leb}
 
 abbrev left : Window Fault → ℕ → ℕ

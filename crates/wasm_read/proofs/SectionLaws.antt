@@ -2,9 +2,8 @@
 use Rattle.std.proofs.Common.{◌≡◌, ℕ, zero, suc, ◌+◌, ◌-◌, ◌<◌, ◌≤◌, List, length, Result, Ok, Err, Option, Some, None, IfSome, refl, sym, ap, ◌∙◌, arith, inl, inr}
 use Rattle.std.specs.Prelude.{◌==◌}
 use Rattle.std.proofs.lemmas.Bool.{cases_lt, eq-eqb}
-use Rattle.owi_base.specs.Forms.{Window, read_on, up_to, ends_at, left_over}
-use Rattle.owi_base.proofs.FormLaws.{IsBelow}
-use Rattle.owi_base.proofs.SignedReading.{taken}
+use Rattle.grammar_forms.specs.Forms.{Window, read_on, up_to, ends_at, left_over}
+use Rattle.grammar_forms.specs.Laws.{IsBelow}
 use Rattle.wasm_binary.specs.Faults.{Fault, size}
 use Rattle.wasm_binary.specs.Values.{u32, name}
 use Rattle.wasm_binary.specs.Modules.{Sections, contents, sized_contents, section}
@@ -13,6 +12,7 @@ use Rattle.wasm_binary.proofs.GrammarLaws.{name_lawful}
 use Rattle.wasm_binary.proofs.ModuleLaws.{section_lawful, section_has_bytes}
 use Rattle.wasm_binary.proofs.BinaryLaws.{step, end}
 use Rattle.wasm_ast.specs.declared.modules.Module.{Module}
+use Rattle.owi_base.proofs.Choices.{taken}
 
 abbrev Answer : Type 0
 Answer = Result (Sections × ℕ) Fault

@@ -13,7 +13,7 @@ use Rattle.wasm_read.specs.declared.bad.ReadBad.TheVariants.{Cut, Magic, Leb, By
 use Rattle.wasm_read.specs.Refusals.{fault_of}
 use Rattle.wasm_read.specs.Stripped.{stripped, told}
 use Rattle.wasm_read.specs.Wholes.{Answers}
-use Rattle.wasm_read.proofs.ShapeOfModules.{binary_shape, stripped_shape, are_bytes}
+use Rattle.wasm_binary.proofs.ShapeOfModules.{binary_shape, stripped_shape, EachIsByte-from_get_or}
 
 -- ---- the front and the sections
 
@@ -122,9 +122,9 @@ few_customs s m is few =
     subst P (sym is) (omega (arith, length-map s.customs (settled (without_customs s))))
 
 pub shape : (bytes : List ℕ) (r : Result Module ReadBad) → ((i : ℕ) → get_or bytes i 0 < 256) → Answers true (read_binary bytes) r → IfOk r (λ m. length m.customs < 2 ^ 32) → IfOk r HasShape
-shape bytes (Ok m) are h few = binary_shape m bytes (are_bytes bytes are) (spelled bytes (Ok m) h) few
+shape bytes (Ok m) are h few = binary_shape m bytes (EachIsByte-from_get_or bytes are) (spelled bytes (Ok m) h) few
 shape bytes (Err bad) are h few = tt
 
 pub shape_of_stripped : (bytes : List ℕ) (r : Result Module ReadBad) → ((i : ℕ) → get_or bytes i 0 < 256) → Answers false (read_binary bytes) r → IfOk r HasShape
-shape_of_stripped bytes (Ok m) are h = subst HasShape (sym h.2) (stripped_shape h.0 bytes (are_bytes bytes are) (binary_sound bytes h.0 h.1))
+shape_of_stripped bytes (Ok m) are h = subst HasShape (sym h.2) (stripped_shape h.0 bytes (EachIsByte-from_get_or bytes are) (binary_sound bytes h.0 h.1))
 shape_of_stripped bytes (Err bad) are h = tt

@@ -1,6 +1,6 @@
 -- What is left of the instructions that hold no others once those of a single opcode are told apart.
 use Rattle.std.specs.Prelude.{ℕ}
-use Rattle.owi_base.specs.Forms.{gives, when◌form◌else◌}
+use Rattle.grammar_forms.specs.Forms.{gives, when◌form◌else◌}
 use Rattle.wasm_ast.specs.Opcodes.{is_load, is_store}
 use Rattle.wasm_ast.specs.declared.instructions.Instr.{Instr}
 use Rattle.wasm_ast.specs.declared.instructions.Instr.TheVariants.{Load, Store, Num}

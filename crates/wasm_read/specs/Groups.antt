@@ -1,6 +1,6 @@
 -- Groups of locals as they are joined while they are read, the latest first.
 use Rattle.std.specs.Prelude.{ℕ, ◌+◌, List, [], ◌∷◌, ◌==◌, if◌then◌else◌}
-use Rattle.owi_base.specs.Forms.{◌>>=◌, gives}
+use Rattle.grammar_forms.specs.Forms.{◌>>=◌, gives}
 use Rattle.wasm_ast.specs.declared.modules.Group.{Group}
 use Rattle.wasm_binary.specs.Values.{Grammar, u32}
 use Rattle.wasm_binary.specs.Locals.{same_kind, groups, joined}

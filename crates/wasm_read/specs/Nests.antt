@@ -1,14 +1,14 @@
 -- The sequences that are open while an expression is read, and what the expression is once they end as the grammar says.
 use Rattle.std.specs.Prelude.{◌≡◌, ℕ, suc, ◌+◌, ◌<◌, List, [], ◌∷◌, ◌++◌, length, All, slice_set, Bool, true, false, if◌then◌else◌, Result, Ok, Err, ◌==◌, MatchResult, IfSome}
-use Rattle.owi_base.specs.Forms.{Window, read_on, gives, when◌form◌else◌}
+use Rattle.grammar_forms.specs.Forms.{Window, read_on, gives, when◌form◌else◌}
 use Rattle.wasm_ast.specs.declared.instructions.Instr.{Instr}
 use Rattle.wasm_ast.specs.declared.instructions.Instr.TheVariants.{Block, Loop, If}
 use Rattle.wasm_ast.specs.declared.instructions.Expr.{Expr}
 use Rattle.wasm_ast.specs.declared.types.BlockType.{BlockType}
 use Rattle.wasm_binary.specs.Faults.{Fault}
 use Rattle.wasm_binary.specs.Instructions.{Opcode, Around, Sequences, empty_sequence, all_of, after_opcode, sequence_below}
-use Rattle.wasm_read.specs.declared.waiting.Opener.{Opener}
-use Rattle.wasm_read.specs.declared.waiting.Opener.TheVariants.{Block as BlockOpens, Loop as LoopOpens, Then, Else}
+use Rattle.wasm_read.specs.declared.enclosing.Opener.{Opener}
+use Rattle.wasm_read.specs.declared.enclosing.Opener.TheVariants.{Block as BlockOpens, Loop as LoopOpens, Then, Else}
 use Rattle.wasm_read.specs.declared.bad.ReadBad.{ReadBad}
 use Rattle.wasm_read.specs.Refusals.{fault_of}
 
@@ -16,7 +16,7 @@ abbrev pub Seqs : Type 0
 Seqs = List (List Instr)
 
 -- a sequence that is open, with another open inside it: its number, what was read of it, and what opened the one inside
-pub record Waiting : Type 0 where
+pub record Enclosing : Type 0 where
   pub number : ℕ
   pub instrs : List Instr
   pub opener : Opener
@@ -28,7 +28,7 @@ pub record Nest : Type 0 where
   pub number : ℕ
   pub instrs : List Instr
   -- the open sequences around it, the nearest first
-  pub outer : List Waiting
+  pub outer : List Enclosing
 
 -- each open sequence has its place
 pub record IsNest (n : Nest) : Type 0 where
@@ -57,7 +57,7 @@ abbrev pub written : Nest → Seqs
 written n = slice_set n.seqs n.number n.instrs
 
 -- back in the sequence that waited
-abbrev pub back_in : Waiting → List Waiting → Seqs → List Instr → Nest
+abbrev pub back_in : Enclosing → List Enclosing → Seqs → List Instr → Nest
 back_in v outer seqs instrs = record { seqs = seqs; number = v.number; instrs = instrs; outer = outer }
 
 -- An if whose first sequence has ended stands in the innermost sequence. Its second sequence is open after an else, and
@@ -67,14 +67,14 @@ ended_first ty number true n = opened Else (pushed (If ty number (length n.seqs)
 ended_first ty number false n = record (pushed (If ty number (length n.seqs)) n) { seqs = n.seqs ++ [] ∷ [] }
 
 -- after a sequence of this number has ended: the instruction that it belongs to stands in the sequence that waited
-abbrev pub closed_in : Opener → Waiting → List Waiting → ℕ → Bool → Seqs → Nest
+abbrev pub closed_in : Opener → Enclosing → List Enclosing → ℕ → Bool → Seqs → Nest
 closed_in (BlockOpens ty) v outer number by_else seqs = back_in v outer seqs (v.instrs ++ Block ty number ∷ [])
 closed_in (LoopOpens ty) v outer number by_else seqs = back_in v outer seqs (v.instrs ++ Loop ty number ∷ [])
 closed_in (Then ty) v outer number by_else seqs = ended_first ty number by_else (back_in v outer seqs v.instrs)
 closed_in Else v outer number by_else seqs = back_in v outer seqs v.instrs
 
 -- after the innermost of these open sequences has ended
-abbrev pub closed_to : List Waiting → ℕ → Bool → Seqs → Nest
+abbrev pub closed_to : List Enclosing → ℕ → Bool → Seqs → Nest
 closed_to [] number by_else seqs = record { seqs = seqs; number = number; instrs = []; outer = [] }
 closed_to (v ∷ outer) number by_else seqs = closed_in v.opener v outer number by_else seqs
 
@@ -82,7 +82,7 @@ abbrev pub closed : Bool → Nest → Nest
 closed by_else n = closed_to n.outer n.number by_else (written n)
 
 -- no sequence is around the innermost
-abbrev pub is_alone : List Waiting → Bool
+abbrev pub is_alone : List Enclosing → Bool
 is_alone [] = true
 is_alone (v ∷ outer) = false
 
@@ -97,7 +97,7 @@ abbrev pub is_then : Opener → Bool
 is_then (Then ty) = true
 is_then opener = false
 
-abbrev pub in_if : List Waiting → Bool
+abbrev pub in_if : List Enclosing → Bool
 in_if [] = false
 in_if (v ∷ outer) = is_then v.opener
 
@@ -127,7 +127,7 @@ ended_by w has_data_count (Then ty) rest instrs number by_else seqs at =
     (λ second next. rest (instrs ++ If ty number (length seqs) ∷ []) (seqs ++ all_of second) next)
 ended_by w has_data_count Else rest instrs number by_else seqs at = rest instrs seqs at
 
-unfoldable pub ending : Window Fault → Bool → List Waiting → Ending
+unfoldable pub ending : Window Fault → Bool → List Enclosing → Ending
 ending w has_data_count [] number by_else seqs at = Ok (record { seqs = seqs }, at)
 ending w has_data_count (v ∷ outer) number by_else seqs at =
     ended_by w has_data_count v.opener (rest_of w has_data_count (in_if outer) v.number (ending w has_data_count outer)) v.instrs number by_else seqs at

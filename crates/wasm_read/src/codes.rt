@@ -1,7 +1,7 @@
 // The code of a function (Binary Format, Modules: Code Section).
 ghost use Rattle.std.specs.Prelude.{◌≤◌, length, IfOk};
 ghost use Rattle.wasm_binary.specs.Locals.{code, code_contents};
-ghost use Rattle.wasm_read.specs.Views.{Tells};
+ghost use Rattle.wasm_read.specs.Views.{Agrees};
 
 use crate::bad::ReadBad;
 use crate::expressions::read_expr;
@@ -35,7 +35,7 @@ pub(crate) fn read_code(
     has_data_count: bool,
 ) -> Result<(Code, usize), ReadBad>
     requires { at ≤ length view.now.bytes }
-    ensures tells { Tells ((code has_data_count).read view.now at) result }
+    ensures agrees { Agrees ((code has_data_count).read view.now at) result }
     ensures within { IfOk result (λ x. x.1 ≤ length view.now.bytes) }
 {
     let (len, at) = read_u32(view, at)?;
@@ -56,7 +56,7 @@ fn read_code_contents(
     has_data_count: bool,
 ) -> Result<(Code, usize), ReadBad>
     requires { at ≤ length view.now.bytes }
-    ensures tells { Tells ((code_contents has_data_count).read view.now at) result }
+    ensures agrees { Agrees ((code_contents has_data_count).read view.now at) result }
     ensures within { IfOk result (λ x. x.1 ≤ length view.now.bytes) }
 {
     let (locals, at) = read_locals(alloc, view, at)?;

@@ -1,12 +1,12 @@
 // The contents of a section, by its id (Binary Format, Modules: Sections).
 ghost use Rattle.std.specs.Prelude.{◌≤◌, [], ◌∷◌, ◌++◌, length, IfOk, Some};
 ghost use Rattle.wasm_binary.specs.Types.{func_type, table_type, limits};
-ghost use Rattle.wasm_binary.specs.Parts.{import as import_form, global as global_form, export as export_form, elem as elem_form};
+ghost use Rattle.wasm_binary.specs.SectionEntries.{import as import_form, global as global_form, export as export_form, elem as elem_form};
 ghost use Rattle.wasm_binary.specs.Values.{u32 as u32_form, vec};
 ghost use Rattle.wasm_binary.specs.Modules.{into, custom, code_section, data_section, contents as contents_by_id};
 ghost use Rattle.wasm_binary.specs.Modules.{same_count, same_as_announced};
-ghost use Rattle.owi_base.specs.Forms.{checked};
-ghost use Rattle.wasm_read.specs.Views.{Tells};
+ghost use Rattle.grammar_forms.specs.Forms.{checked};
+ghost use Rattle.wasm_read.specs.Views.{Agrees};
 
 use crate::bad::ReadBad;
 use crate::customs::read_custom;
@@ -26,7 +26,7 @@ fn read_custom_section(
     len: u32,
 ) -> Result<(Sections, usize), ReadBad>
     requires { at ≤ length view.now.bytes }
-    ensures tells { Tells ((into (custom sections.slot len) (λ x. record sections { customs = sections.customs ++ x ∷ [] })).read view.now at) result }
+    ensures agrees { Agrees ((into (custom sections.slot len) (λ x. record sections { customs = sections.customs ++ x ∷ [] })).read view.now at) result }
     ensures within { IfOk result (λ x. x.1 ≤ length view.now.bytes) }
 {
     let mut sections = sections;
@@ -43,7 +43,7 @@ fn read_types(
     sections: Sections,
 ) -> Result<(Sections, usize), ReadBad>
     requires { at ≤ length view.now.bytes }
-    ensures tells { Tells ((into (vec func_type) (λ xs. record sections { slot = 1; types = xs })).read view.now at) result }
+    ensures agrees { Agrees ((into (vec func_type) (λ xs. record sections { slot = 1; types = xs })).read view.now at) result }
     ensures within { IfOk result (λ x. x.1 ≤ length view.now.bytes) }
 {
     let mut sections = sections;
@@ -61,7 +61,7 @@ fn read_imports(
     sections: Sections,
 ) -> Result<(Sections, usize), ReadBad>
     requires { at ≤ length view.now.bytes }
-    ensures tells { Tells ((into (vec import_form) (λ xs. record sections { slot = 2; imports = xs })).read view.now at) result }
+    ensures agrees { Agrees ((into (vec import_form) (λ xs. record sections { slot = 2; imports = xs })).read view.now at) result }
     ensures within { IfOk result (λ x. x.1 ≤ length view.now.bytes) }
 {
     let mut sections = sections;
@@ -79,7 +79,7 @@ fn read_type_indices(
     sections: Sections,
 ) -> Result<(Sections, usize), ReadBad>
     requires { at ≤ length view.now.bytes }
-    ensures tells { Tells ((into (vec u32_form) (λ xs. record sections { slot = 3; type_indices = xs })).read view.now at) result }
+    ensures agrees { Agrees ((into (vec u32_form) (λ xs. record sections { slot = 3; type_indices = xs })).read view.now at) result }
     ensures within { IfOk result (λ x. x.1 ≤ length view.now.bytes) }
 {
     let mut sections = sections;
@@ -97,7 +97,7 @@ fn read_tables(
     sections: Sections,
 ) -> Result<(Sections, usize), ReadBad>
     requires { at ≤ length view.now.bytes }
-    ensures tells { Tells ((into (vec table_type) (λ xs. record sections { slot = 4; tables = xs })).read view.now at) result }
+    ensures agrees { Agrees ((into (vec table_type) (λ xs. record sections { slot = 4; tables = xs })).read view.now at) result }
     ensures within { IfOk result (λ x. x.1 ≤ length view.now.bytes) }
 {
     let mut sections = sections;
@@ -115,7 +115,7 @@ fn read_memories(
     sections: Sections,
 ) -> Result<(Sections, usize), ReadBad>
     requires { at ≤ length view.now.bytes }
-    ensures tells { Tells ((into (vec limits) (λ xs. record sections { slot = 5; memories = xs })).read view.now at) result }
+    ensures agrees { Agrees ((into (vec limits) (λ xs. record sections { slot = 5; memories = xs })).read view.now at) result }
     ensures within { IfOk result (λ x. x.1 ≤ length view.now.bytes) }
 {
     let mut sections = sections;
@@ -133,7 +133,7 @@ fn read_globals(
     sections: Sections,
 ) -> Result<(Sections, usize), ReadBad>
     requires { at ≤ length view.now.bytes }
-    ensures tells { Tells ((into (vec global_form) (λ xs. record sections { slot = 6; globals = xs })).read view.now at) result }
+    ensures agrees { Agrees ((into (vec global_form) (λ xs. record sections { slot = 6; globals = xs })).read view.now at) result }
     ensures within { IfOk result (λ x. x.1 ≤ length view.now.bytes) }
 {
     let mut sections = sections;
@@ -151,7 +151,7 @@ fn read_exports(
     sections: Sections,
 ) -> Result<(Sections, usize), ReadBad>
     requires { at ≤ length view.now.bytes }
-    ensures tells { Tells ((into (vec export_form) (λ xs. record sections { slot = 7; exports = xs })).read view.now at) result }
+    ensures agrees { Agrees ((into (vec export_form) (λ xs. record sections { slot = 7; exports = xs })).read view.now at) result }
     ensures within { IfOk result (λ x. x.1 ≤ length view.now.bytes) }
 {
     let mut sections = sections;
@@ -164,7 +164,7 @@ fn read_exports(
 // The function that runs when the module starts.
 fn read_start(view: &View, at: usize, sections: Sections) -> Result<(Sections, usize), ReadBad>
     requires { at ≤ length view.now.bytes }
-    ensures tells { Tells ((into u32_form (λ x. record sections { slot = 8; start = Some x })).read view.now at) result }
+    ensures agrees { Agrees ((into u32_form (λ x. record sections { slot = 8; start = Some x })).read view.now at) result }
     ensures within { IfOk result (λ x. x.1 ≤ length view.now.bytes) }
 {
     let mut sections = sections;
@@ -182,7 +182,7 @@ fn read_elems(
     sections: Sections,
 ) -> Result<(Sections, usize), ReadBad>
     requires { at ≤ length view.now.bytes }
-    ensures tells { Tells ((into (vec elem_form) (λ xs. record sections { slot = 9; elems = xs })).read view.now at) result }
+    ensures agrees { Agrees ((into (vec elem_form) (λ xs. record sections { slot = 9; elems = xs })).read view.now at) result }
     ensures within { IfOk result (λ x. x.1 ≤ length view.now.bytes) }
 {
     let mut sections = sections;
@@ -195,7 +195,7 @@ fn read_elems(
 // How many data segments are announced.
 fn read_data_count(view: &View, at: usize, sections: Sections) -> Result<(Sections, usize), ReadBad>
     requires { at ≤ length view.now.bytes }
-    ensures tells { Tells ((into u32_form (λ x. record sections { slot = 10; data_count = Some x })).read view.now at) result }
+    ensures agrees { Agrees ((into u32_form (λ x. record sections { slot = 10; data_count = Some x })).read view.now at) result }
     ensures within { IfOk result (λ x. x.1 ≤ length view.now.bytes) }
 {
     let mut sections = sections;
@@ -208,7 +208,7 @@ fn read_data_count(view: &View, at: usize, sections: Sections) -> Result<(Sectio
 // How many codes there are: as many as functions.
 fn read_code_count(view: &View, at: usize, funcs: usize) -> Result<(u32, usize), ReadBad>
     requires { at ≤ length view.now.bytes }
-    ensures tells { Tells ((checked u32_form (same_count funcs)).read view.now at) result }
+    ensures agrees { Agrees ((checked u32_form (same_count funcs)).read view.now at) result }
     ensures within { IfOk result (λ x. x.1 ≤ length view.now.bytes) }
 {
     let (count, next) = read_u32(view, at)?;
@@ -231,7 +231,7 @@ fn read_codes(
     sections: Sections,
 ) -> Result<(Sections, usize), ReadBad>
     requires { at ≤ length view.now.bytes }
-    ensures tells { Tells ((into (code_section sections) (λ xs. record sections { slot = 11; codes = xs })).read view.now at) result }
+    ensures agrees { Agrees ((into (code_section sections) (λ xs. record sections { slot = 11; codes = xs })).read view.now at) result }
     ensures within { IfOk result (λ x. x.1 ≤ length view.now.bytes) }
 {
     let mut sections = sections;
@@ -250,7 +250,7 @@ fn read_segment_count(
     announced: Option<u32>,
 ) -> Result<(u32, usize), ReadBad>
     requires { at ≤ length view.now.bytes }
-    ensures tells { Tells ((checked u32_form (same_as_announced announced)).read view.now at) result }
+    ensures agrees { Agrees ((checked u32_form (same_as_announced announced)).read view.now at) result }
     ensures within { IfOk result (λ x. x.1 ≤ length view.now.bytes) }
 {
     let (count, next) = read_u32(view, at)?;
@@ -273,7 +273,7 @@ fn read_segments(
     sections: Sections,
 ) -> Result<(Sections, usize), ReadBad>
     requires { at ≤ length view.now.bytes }
-    ensures tells { Tells ((into (data_section sections) (λ xs. record sections { slot = 12; segments = xs })).read view.now at) result }
+    ensures agrees { Agrees ((into (data_section sections) (λ xs. record sections { slot = 12; segments = xs })).read view.now at) result }
     ensures within { IfOk result (λ x. x.1 ≤ length view.now.bytes) }
 {
     let mut sections = sections;
@@ -294,7 +294,7 @@ pub(crate) fn read_contents(
     len: u32,
 ) -> Result<(Sections, usize), ReadBad>
     requires { at ≤ length view.now.bytes }
-    ensures tells { Tells ((contents_by_id sections id len).read view.now at) result }
+    ensures agrees { Agrees ((contents_by_id sections id len).read view.now at) result }
     ensures within { IfOk result (λ x. x.1 ≤ length view.now.bytes) }
 {
     match id {

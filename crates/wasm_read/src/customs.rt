@@ -2,7 +2,7 @@
 ghost use Rattle.std.specs.Prelude.{◌≡◌, ℕ, ◌≤◌, length, IfOk, IfErr, IfSome, Ok, Err};
 ghost use Rattle.wasm_binary.specs.Modules.{custom as custom_form};
 ghost use Rattle.wasm_read.specs.Refusals.{fault_of};
-ghost use Rattle.wasm_read.specs.Views.{Tells};
+ghost use Rattle.wasm_read.specs.Views.{Agrees};
 
 use crate::bad::ReadBad;
 use crate::names::{read_slice, read_str};
@@ -39,7 +39,7 @@ pub(crate) fn read_custom(
     len: u32,
 ) -> Result<(Custom, usize), ReadBad>
     requires { at ≤ length view.now.bytes }
-    ensures tells { Tells ((custom_form slot len).read view.now at) result }
+    ensures agrees { Agrees ((custom_form slot len).read view.now at) result }
     ensures within { IfOk result (λ x. x.1 ≤ length view.now.bytes) }
 {
     let (name, bytes, next) = find_custom(view, at, len)?;

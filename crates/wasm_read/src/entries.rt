@@ -1,8 +1,8 @@
 // Vectors (Binary Format, Conventions: Vectors).
 ghost use Rattle.std.specs.Prelude.{◌≤◌, length, IfOk};
-ghost use Rattle.owi_base.specs.Forms.{many};
+ghost use Rattle.grammar_forms.specs.Forms.{many};
 ghost use Rattle.wasm_binary.specs.Values.{vec};
-ghost use Rattle.wasm_read.specs.Views.{Tells};
+ghost use Rattle.wasm_read.specs.Views.{Agrees};
 
 use crate::bad::ReadBad;
 use crate::numbers::read_u32;
@@ -13,7 +13,7 @@ use wasm_ast::{List, ValType};
 
 /// What stands in vectors, with its form in the grammar.
 pub(crate) trait Entry: Drop {
-    ghost use Rattle.owi_base.specs.Forms.{Form};
+    ghost use Rattle.grammar_forms.specs.Forms.{Form};
     ghost use Rattle.wasm_binary.specs.Faults.{Fault};
 
     ghost form: { Form Fault Self };
@@ -21,7 +21,7 @@ pub(crate) trait Entry: Drop {
     /// The entry that begins at a place, and the place after it.
     fn read(alloc: Global, view: &View, at: usize) -> Result<(Self, usize), ReadBad>
         requires { at ≤ length view.now.bytes }
-        ensures tells { Tells (form.read view.now at) result }
+        ensures agrees { Agrees (form.read view.now at) result }
         ensures within { IfOk result (λ x. x.1 ≤ length view.now.bytes) };
 }
 
@@ -32,7 +32,7 @@ pub(crate) fn read_vec<T: Entry>(
     at: usize,
 ) -> Result<(List<T>, usize), ReadBad>
     requires { at ≤ length view.now.bytes }
-    ensures tells { Tells ((vec T.form).read view.now at) result }
+    ensures agrees { Agrees ((vec T.form).read view.now at) result }
     ensures within { IfOk result (λ x. x.1 ≤ length view.now.bytes) }
 {
     let (count, at) = read_u32(view, at)?;
@@ -47,7 +47,7 @@ pub(crate) fn read_many<T: Entry>(
     count: u32,
 ) -> Result<(List<T>, usize), ReadBad>
     requires { start ≤ length view.now.bytes }
-    ensures tells { Tells ((many T.form count).read view.now start) result }
+    ensures agrees { Agrees ((many T.form count).read view.now start) result }
     ensures within { IfOk result (λ x. x.1 ≤ length view.now.bytes) }
 {
     let mut entries = List::new(Vec::new(alloc));

@@ -1,9 +1,9 @@
 // Vectors of entries whose form depends on a test that is known beforehand (Binary Format, Conventions: Vectors).
 ghost use Rattle.std.specs.Prelude.{◌≡◌, ◌≤◌, length, IfOk, IfErr, IfSome, Ok, Err};
-ghost use Rattle.owi_base.specs.Forms.{many};
+ghost use Rattle.grammar_forms.specs.Forms.{many};
 ghost use Rattle.wasm_binary.specs.Values.{vec};
 ghost use Rattle.wasm_read.specs.Refusals.{fault_of};
-ghost use Rattle.wasm_read.specs.Views.{Tells};
+ghost use Rattle.wasm_read.specs.Views.{Agrees};
 
 use crate::bad::ReadBad;
 use crate::codes::{Code, read_code};
@@ -14,7 +14,7 @@ use std::alloc::Global;
 /// What stands in vectors in one of two forms, by a test that is known beforehand.
 pub(crate) trait EntryBy: Drop {
     ghost use Rattle.std.specs.Prelude.{Bool};
-    ghost use Rattle.owi_base.specs.Forms.{Form};
+    ghost use Rattle.grammar_forms.specs.Forms.{Form};
     ghost use Rattle.wasm_binary.specs.Faults.{Fault};
 
     ghost form: { Bool → Form Fault Self };
@@ -22,7 +22,7 @@ pub(crate) trait EntryBy: Drop {
     /// The entry that begins at a place, and the place after it.
     fn read_by(alloc: Global, view: &View, at: usize, test: bool) -> Result<(Self, usize), ReadBad>
         requires { at ≤ length view.now.bytes }
-        ensures tells { Tells ((form test).read view.now at) result }
+        ensures agrees { Agrees ((form test).read view.now at) result }
         ensures within { IfOk result (λ x. x.1 ≤ length view.now.bytes) };
 }
 

@@ -5,15 +5,15 @@ ghost use Rattle.std.specs.Prelude.{◌≡◌, ◌<◌, ◌≤◌, length, IfOk,
 ghost use Rattle.wasm_ast.specs.Opcodes.{is_from};
 ghost use Rattle.wasm_binary.specs.Instructions.{expression, is_last};
 ghost use Rattle.wasm_read.specs.Nests.{IsNest, rest, after, opener_for, LeadsTo};
-ghost use Rattle.wasm_read.specs.Views.{Tells};
+ghost use Rattle.wasm_read.specs.Views.{Agrees};
 
 use crate::bad::ReadBad;
+use crate::enclosing::Opener;
 use crate::instructions::read_plain;
 use crate::nests::Nest;
 use crate::opcodes::{Context, Opcode, read_opcode};
 use crate::types::read_block_type;
 use crate::views::View;
-use crate::waiting::Opener;
 use std::alloc::Global;
 use wasm_ast::{BlockType, Expr};
 
@@ -25,7 +25,7 @@ pub(crate) fn read_expr(
     has_data_count: bool,
 ) -> Result<(Expr, usize), ReadBad>
     requires { start ≤ length view.now.bytes }
-    ensures tells { Tells ((expression has_data_count).read view.now start) result }
+    ensures agrees { Agrees ((expression has_data_count).read view.now start) result }
     ensures within { IfOk result (λ x. x.1 ≤ length view.now.bytes) }
 {
     let mut nest = Nest::new(alloc)?;

@@ -1,8 +1,8 @@
 // One section: its id, its length and its contents (Binary Format, Modules: Sections).
 ghost use Rattle.std.specs.Prelude.{◌≡◌, ◌≤◌, length, IfOk};
-ghost use Rattle.owi_base.specs.Forms.{any_byte, checked};
+ghost use Rattle.grammar_forms.specs.Forms.{any_byte, checked};
 ghost use Rattle.wasm_binary.specs.Modules.{next_id, slot_of as slot_by_id, sized_contents};
-ghost use Rattle.wasm_read.specs.Views.{Tells};
+ghost use Rattle.wasm_read.specs.Views.{Agrees};
 
 use crate::bad::ReadBad;
 use crate::contents::read_contents;
@@ -27,7 +27,7 @@ fn slot_of(id: u8) -> u8
 /// The id of a section that may come next.
 pub(crate) fn read_id(view: &View, at: usize, sections: &Sections) -> Result<(u8, usize), ReadBad>
     requires { at ≤ length view.now.bytes }
-    ensures tells { Tells ((checked any_byte (next_id sections.now)).read view.now at) result }
+    ensures agrees { Agrees ((checked any_byte (next_id sections.now)).read view.now at) result }
     ensures within { IfOk result (λ x. x.1 ≤ length view.now.bytes) }
 {
     let (id, next) = read_byte(view, at)?;
@@ -50,7 +50,7 @@ pub(crate) fn read_sized_contents(
     id: u8,
 ) -> Result<(Sections, usize), ReadBad>
     requires { at ≤ length view.now.bytes }
-    ensures tells { Tells ((sized_contents sections id).read view.now at) result }
+    ensures agrees { Agrees ((sized_contents sections id).read view.now at) result }
     ensures within { IfOk result (λ x. x.1 ≤ length view.now.bytes) }
 {
     let (len, start) = read_u32(view, at)?;

@@ -1,10 +1,10 @@
 // Groups of locals (Binary Format, Modules: Code Section).
 ghost use Rattle.std.specs.Prelude.{◌≡◌, ◌+◌, ◌<◌, ◌≤◌, ◌^◌, [], ◌∷◌, length, All, reverse, IfOk, OnOk};
-ghost use Rattle.owi_base.specs.Forms.{checked};
+ghost use Rattle.grammar_forms.specs.Forms.{checked};
 ghost use Rattle.wasm_binary.specs.Values.{u32 as u32_form};
 ghost use Rattle.wasm_binary.specs.Locals.{few, group, same_kind as same_kind_as};
 ghost use Rattle.wasm_read.specs.Groups.{put_some, put_group, joined_locals, joined_groups};
-ghost use Rattle.wasm_read.specs.Views.{Tells};
+ghost use Rattle.wasm_read.specs.Views.{Agrees};
 
 use crate::bad::ReadBad;
 use crate::numbers::read_u32;
@@ -100,7 +100,7 @@ pub(crate) fn read_locals(
     at: usize,
 ) -> Result<(List<Group>, usize), ReadBad>
     requires { at ≤ length view.now.bytes }
-    ensures tells { Tells (joined_locals.read view.now at) result }
+    ensures agrees { Agrees (joined_locals.read view.now at) result }
     ensures within { IfOk result (λ x. x.1 ≤ length view.now.bytes) }
 {
     let (count, at) = read_u32(view, at)?;
@@ -115,7 +115,7 @@ fn read_groups(
     count: u32,
 ) -> Result<(List<Group>, usize), ReadBad>
     requires { start ≤ length view.now.bytes }
-    ensures tells { Tells ((joined_groups count).read view.now start) result }
+    ensures agrees { Agrees ((joined_groups count).read view.now start) result }
     ensures within { IfOk result (λ x. x.1 ≤ length view.now.bytes) }
 {
     let mut joined = Joined::new(alloc);
@@ -134,7 +134,7 @@ fn read_groups(
 fn read_group(view: &View, at: usize, sum: u64) -> Result<(Group, usize), ReadBad>
     requires here { at ≤ length view.now.bytes }
     requires few { sum ≤ 50000 }
-    ensures tells { Tells ((group sum).read view.now at) result }
+    ensures agrees { Agrees ((group sum).read view.now at) result }
     ensures few { IfOk result (λ x. sum + x.0.count ≤ 50000) }
     ensures within { IfOk result (λ x. x.1 ≤ length view.now.bytes) }
 {
@@ -147,7 +147,7 @@ fn read_group(view: &View, at: usize, sum: u64) -> Result<(Group, usize), ReadBa
 fn read_count(view: &View, at: usize, sum: u64) -> Result<(u32, usize), ReadBad>
     requires here { at ≤ length view.now.bytes }
     requires few { sum ≤ 50000 }
-    ensures tells { Tells ((checked u32_form (few sum)).read view.now at) result }
+    ensures agrees { Agrees ((checked u32_form (few sum)).read view.now at) result }
     ensures few { IfOk result (λ x. sum + x.0 ≤ 50000) }
     ensures within { IfOk result (λ x. x.1 ≤ length view.now.bytes) }
 {

@@ -1,7 +1,7 @@
 // Imports, globals and exports (Binary Format, Modules: Import Section, Global Section, Export Section).
 ghost use Rattle.std.specs.Prelude.{◌≡◌, ◌<◌, ◌≤◌, length, IfOk};
-ghost use Rattle.wasm_binary.specs.Parts.{import_kind as import_kind_form, import as import_form, global as global_form, export as export_form, space_of as space_by_byte};
-ghost use Rattle.wasm_read.specs.Views.{Tells};
+ghost use Rattle.wasm_binary.specs.SectionEntries.{import_kind as import_kind_form, import as import_form, global as global_form, export as export_form, space_of as space_by_byte};
+ghost use Rattle.wasm_read.specs.Views.{Agrees};
 
 use crate::bad::ReadBad;
 use crate::entries::Entry;
@@ -16,7 +16,7 @@ use wasm_ast::{Export, GlobalDef, Import, ImportKind, Space};
 // What an import is, by the byte before it.
 fn read_import_kind(view: &View, at: usize, byte: u8) -> Result<(ImportKind, usize), ReadBad>
     requires { at ≤ length view.now.bytes }
-    ensures tells { Tells ((import_kind_form byte).read view.now at) result }
+    ensures agrees { Agrees ((import_kind_form byte).read view.now at) result }
     ensures within { IfOk result (λ x. x.1 ≤ length view.now.bytes) }
 {
     match byte {
@@ -42,7 +42,7 @@ fn read_import_kind(view: &View, at: usize, byte: u8) -> Result<(ImportKind, usi
 /// An import: the name of the module that it comes from, its name there, and what it is.
 pub(crate) fn read_import(alloc: Global, view: &View, at: usize) -> Result<(Import, usize), ReadBad>
     requires { at ≤ length view.now.bytes }
-    ensures tells { Tells (import_form.read view.now at) result }
+    ensures agrees { Agrees (import_form.read view.now at) result }
     ensures within { IfOk result (λ x. x.1 ≤ length view.now.bytes) }
 {
     let (module, at) = read_name(alloc, view, at)?;
@@ -59,7 +59,7 @@ pub(crate) fn read_global(
     at: usize,
 ) -> Result<(GlobalDef, usize), ReadBad>
     requires { at ≤ length view.now.bytes }
-    ensures tells { Tells (global_form.read view.now at) result }
+    ensures agrees { Agrees (global_form.read view.now at) result }
     ensures within { IfOk result (λ x. x.1 ≤ length view.now.bytes) }
 {
     let (ty, at) = read_global_type(view, at)?;
@@ -82,7 +82,7 @@ fn space_of(byte: u8) -> Space
 /// An export: its name, what its index counts, and the index.
 pub(crate) fn read_export(alloc: Global, view: &View, at: usize) -> Result<(Export, usize), ReadBad>
     requires { at ≤ length view.now.bytes }
-    ensures tells { Tells (export_form.read view.now at) result }
+    ensures agrees { Agrees (export_form.read view.now at) result }
     ensures within { IfOk result (λ x. x.1 ≤ length view.now.bytes) }
 {
     let (name, at) = read_name(alloc, view, at)?;
@@ -93,7 +93,7 @@ pub(crate) fn read_export(alloc: Global, view: &View, at: usize) -> Result<(Expo
 }
 
 impl Entry for Import {
-    ghost use Rattle.wasm_binary.specs.Parts.{import};
+    ghost use Rattle.wasm_binary.specs.SectionEntries.{import};
 
     ghost form = { import };
 
@@ -103,7 +103,7 @@ impl Entry for Import {
 }
 
 impl Entry for GlobalDef {
-    ghost use Rattle.wasm_binary.specs.Parts.{global};
+    ghost use Rattle.wasm_binary.specs.SectionEntries.{global};
 
     ghost form = { global };
 
@@ -113,7 +113,7 @@ impl Entry for GlobalDef {
 }
 
 impl Entry for Export {
-    ghost use Rattle.wasm_binary.specs.Parts.{export};
+    ghost use Rattle.wasm_binary.specs.SectionEntries.{export};
 
     ghost form = { export };
 

@@ -2,13 +2,13 @@
 #![tactic(auto, unfolding(wasm_binary::specs::Instructions::plain))]
 
 ghost use Rattle.std.specs.Prelude.{◌≡◌, ◌≤◌, length, IfOk};
-ghost use Rattle.owi_base.specs.Forms.{checked};
+ghost use Rattle.grammar_forms.specs.Forms.{checked};
 ghost use Rattle.wasm_ast.specs.Opcodes.{is_from as is_from_byte};
 ghost use Rattle.wasm_binary.specs.Values.{u32 as u32_form};
 ghost use Rattle.wasm_binary.specs.Types.{below};
 ghost use Rattle.wasm_binary.specs.Instructions.{plain};
 ghost use Rattle.wasm_read.specs.Accesses.{access};
-ghost use Rattle.wasm_read.specs.Views.{Tells};
+ghost use Rattle.wasm_read.specs.Views.{Agrees};
 
 use crate::bad::ReadBad;
 use crate::entries::read_vec;
@@ -29,7 +29,7 @@ pub(crate) fn read_plain(
     op: &Opcode,
 ) -> Result<(Instr, usize), ReadBad>
     requires { at ≤ length view.now.bytes }
-    ensures tells { Tells ((plain op.now).read view.now at) result }
+    ensures agrees { Agrees ((plain op.now).read view.now at) result }
     ensures within { IfOk result (λ x. x.1 ≤ length view.now.bytes) }
 {
     let first = op.first;
@@ -73,7 +73,7 @@ fn read_branch(
     requires here { at ≤ length view.now.bytes }
     requires low { 0x0C ≤ op.now.first }
     requires high { op.now.first ≤ 0x11 }
-    ensures tells { Tells ((plain op.now).read view.now at) result }
+    ensures agrees { Agrees ((plain op.now).read view.now at) result }
     ensures within { IfOk result (λ x. x.1 ≤ length view.now.bytes) }
 {
     match op.first {
@@ -114,7 +114,7 @@ fn read_parametric(
     requires here { at ≤ length view.now.bytes }
     requires low { 0x1A ≤ op.now.first }
     requires high { op.now.first ≤ 0x1C }
-    ensures tells { Tells ((plain op.now).read view.now at) result }
+    ensures agrees { Agrees ((plain op.now).read view.now at) result }
     ensures within { IfOk result (λ x. x.1 ≤ length view.now.bytes) }
 {
     match op.first {
@@ -133,7 +133,7 @@ fn read_variable(view: &View, at: usize, op: &Opcode) -> Result<(Instr, usize), 
     requires here { at ≤ length view.now.bytes }
     requires low { 0x20 ≤ op.now.first }
     requires high { op.now.first ≤ 0x26 }
-    ensures tells { Tells ((plain op.now).read view.now at) result }
+    ensures agrees { Agrees ((plain op.now).read view.now at) result }
     ensures within { IfOk result (λ x. x.1 ≤ length view.now.bytes) }
 {
     match op.first {
@@ -174,7 +174,7 @@ fn read_size_or_constant(view: &View, at: usize, op: &Opcode) -> Result<(Instr, 
     requires here { at ≤ length view.now.bytes }
     requires low { 0x3F ≤ op.now.first }
     requires high { op.now.first ≤ 0x42 }
-    ensures tells { Tells ((plain op.now).read view.now at) result }
+    ensures agrees { Agrees ((plain op.now).read view.now at) result }
     ensures within { IfOk result (λ x. x.1 ≤ length view.now.bytes) }
 {
     match op.first {
@@ -203,7 +203,7 @@ fn read_reference(view: &View, at: usize, op: &Opcode) -> Result<(Instr, usize),
     requires here { at ≤ length view.now.bytes }
     requires low { 0xD0 ≤ op.now.first }
     requires high { op.now.first ≤ 0xD2 }
-    ensures tells { Tells ((plain op.now).read view.now at) result }
+    ensures agrees { Agrees ((plain op.now).read view.now at) result }
     ensures within { IfOk result (λ x. x.1 ≤ length view.now.bytes) }
 {
     match op.first {
@@ -223,7 +223,7 @@ fn read_reference(view: &View, at: usize, op: &Opcode) -> Result<(Instr, usize),
 // A load or a store with its memory argument, or an operator.
 fn read_access(view: &View, at: usize, op: u8) -> Result<(Instr, usize), ReadBad>
     requires { at ≤ length view.now.bytes }
-    ensures tells { Tells ((access op).read view.now at) result }
+    ensures agrees { Agrees ((access op).read view.now at) result }
     ensures within { IfOk result (λ x. x.1 ≤ length view.now.bytes) }
 {
     if is_load(op) {
@@ -242,7 +242,7 @@ fn read_access(view: &View, at: usize, op: u8) -> Result<(Instr, usize), ReadBad
 // The exponent of an alignment, which is below 32.
 fn read_alignment(view: &View, at: usize) -> Result<(u32, usize), ReadBad>
     requires { at ≤ length view.now.bytes }
-    ensures tells { Tells ((checked u32_form (below 32)).read view.now at) result }
+    ensures agrees { Agrees ((checked u32_form (below 32)).read view.now at) result }
     ensures within { IfOk result (λ x. x.1 ≤ length view.now.bytes) }
 {
     let (align, next) = read_u32(view, at)?;

@@ -1,9 +1,9 @@
 // Texts and runs of bytes (Binary Format, Values: Names; Conventions: Vectors).
 ghost use Rattle.std.specs.Prelude.{◌≡◌, ◌+◌, ◌≤◌, length, IfOk, IfErr, IfSome, Ok, Err};
-ghost use Rattle.owi_base.specs.Forms.{any_byte, many};
+ghost use Rattle.grammar_forms.specs.Forms.{any_byte, many};
 ghost use Rattle.wasm_binary.specs.Values.{name, vec};
 ghost use Rattle.wasm_read.specs.Refusals.{fault_of};
-ghost use Rattle.wasm_read.specs.Views.{Tells};
+ghost use Rattle.wasm_read.specs.Views.{Agrees};
 
 use crate::bad::ReadBad;
 use crate::numbers::read_u32;
@@ -39,7 +39,7 @@ pub(crate) fn read_bytes(
     count: usize,
 ) -> Result<(List<u8>, usize), ReadBad>
     requires { at ≤ length view.now.bytes }
-    ensures tells { Tells ((many any_byte count).read view.now at) result }
+    ensures agrees { Agrees ((many any_byte count).read view.now at) result }
     ensures within { IfOk result (λ x. x.1 ≤ length view.now.bytes) }
 {
     let (bytes, next) = read_slice(view, at, count)?;
@@ -53,7 +53,7 @@ pub(crate) fn read_byte_vec(
     at: usize,
 ) -> Result<(List<u8>, usize), ReadBad>
     requires { at ≤ length view.now.bytes }
-    ensures tells { Tells ((vec any_byte).read view.now at) result }
+    ensures agrees { Agrees ((vec any_byte).read view.now at) result }
     ensures within { IfOk result (λ x. x.1 ≤ length view.now.bytes) }
 {
     let (count, at) = read_u32(view, at)?;
@@ -78,7 +78,7 @@ pub(crate) fn read_str<'a>(view: &'a View, at: usize) -> Result<(&'a str, usize)
 /// A name.
 pub(crate) fn read_name(alloc: Global, view: &View, at: usize) -> Result<(Text, usize), ReadBad>
     requires { at ≤ length view.now.bytes }
-    ensures tells { Tells (name.read view.now at) result }
+    ensures agrees { Agrees (name.read view.now at) result }
     ensures within { IfOk result (λ x. x.1 ≤ length view.now.bytes) }
 {
     let (text, next) = read_str(view, at)?;

@@ -3,8 +3,8 @@ ghost use Rattle.std.specs.Prelude.{◌≡◌, IfOk, OnOk, IfErr};
 ghost use Rattle.wasm_read.specs.Nests.{IsNest, first_nest, pushed, opened, ended_first, closed_in, closed, is_alone, in_if};
 
 use crate::bad::ReadBad;
-use crate::fitting::fitted;
-use crate::waiting::{Opener, Waiting};
+use crate::enclosing::{Enclosing, Opener};
+use crate::exact_lists::exact_list;
 use std::alloc::{AllocError, Global};
 use std::marker::Model;
 use std::mem;
@@ -19,7 +19,7 @@ pub(crate) struct Nest {
     number: u32,
     instrs: Vec<Instr>,
     // Those around it, the nearest last.
-    outer: Vec<Waiting>,
+    outer: Vec<Enclosing>,
 }
 
 impl Model for Nest {
@@ -51,7 +51,7 @@ impl Nest {
         ensures { result ≡ in_if self.now.outer }
     {
         match self.outer.last() {
-            Some(waiting) => matches!(waiting.opener, Opener::Then(_)),
+            Some(enclosing) => matches!(enclosing.opener, Opener::Then(_)),
             None => false,
         }
     }
@@ -74,7 +74,7 @@ impl Nest {
         };
         self.seqs.push(List::new(Vec::new(alloc)))?;
         let instrs = mem::replace(&mut self.instrs, Vec::new(alloc));
-        self.outer.push(Waiting {
+        self.outer.push(Enclosing {
             number: self.number,
             instrs,
             opener,
@@ -92,11 +92,11 @@ impl Nest {
     {
         let number = self.number;
         let instrs = mem::replace(&mut self.instrs, Vec::new(alloc));
-        self.seqs[number as usize] = fitted(alloc, instrs)?;
+        self.seqs[number as usize] = exact_list(alloc, instrs)?;
         match self.outer.pop() {
             None => Ok(true),
-            Some(waiting) => {
-                self.go_back(alloc, waiting, number, by_else)?;
+            Some(enclosing) => {
+                self.go_back(alloc, enclosing, number, by_else)?;
                 Ok(false)
             }
         }
@@ -106,17 +106,17 @@ impl Nest {
     fn go_back(
         &mut self,
         alloc: Global,
-        waiting: Waiting,
+        enclosing: Enclosing,
         number: u32,
         by_else: bool,
     ) -> Result<(), ReadBad>
         ensures closed { OnOk result
-            (self.new ≡ closed_in waiting.opener waiting self.old.outer number by_else self.old.seqs) }
+            (self.new ≡ closed_in enclosing.opener enclosing self.old.outer number by_else self.old.seqs) }
         ensures memory { IfErr result (λ bad. bad ≡ ReadBad.NoMemory) }
     {
-        self.number = waiting.number;
-        self.instrs = waiting.instrs;
-        match waiting.opener {
+        self.number = enclosing.number;
+        self.instrs = enclosing.instrs;
+        match enclosing.opener {
             Opener::Block(ty) => self.instrs.push(Instr::Block { ty, body: number })?,
             Opener::Loop(ty) => self.instrs.push(Instr::Loop { ty, body: number })?,
             Opener::Then(ty) => self.end_first(alloc, ty, number, by_else)?,
@@ -153,6 +153,6 @@ impl Nest {
     pub(crate) fn into_seqs(self, alloc: Global) -> Result<List<List<Instr>>, AllocError>
         ensures { IfOk result (λ seqs. seqs ≡ self.seqs) }
     {
-        fitted(alloc, self.seqs)
+        exact_list(alloc, self.seqs)
     }
 }

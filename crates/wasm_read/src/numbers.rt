@@ -1,11 +1,11 @@
 // Bytes and numbers (Binary Format, Values).
 ghost use Rattle.std.specs.Prelude.{◌≡◌, ◌+◌, ◌<◌, ◌≤◌, length, IfOk, Some, Ok, Err};
-ghost use Rattle.owi_base.specs.Forms.{any_byte, said};
+ghost use Rattle.grammar_forms.specs.Forms.{any_byte, said};
 ghost use Rattle.wasm_binary.specs.Faults.{leb};
 ghost use Rattle.owi_base.specs.Leb.{HasBits};
 ghost use Rattle.wasm_binary.specs.Values.{u32 as u32_form, s32 as s32_form, s33 as s33_form, s64 as s64_form, tag};
 ghost use Rattle.wasm_read.specs.Refusals.{fault_of};
-ghost use Rattle.wasm_read.specs.Views.{Tells};
+ghost use Rattle.wasm_read.specs.Views.{Agrees};
 
 use crate::bad::ReadBad;
 use crate::views::View;
@@ -14,7 +14,7 @@ use owi_base::{LebBad, leb_s, leb_u};
 /// The byte at a place.
 pub(crate) fn read_byte(view: &View, at: usize) -> Result<(u8, usize), ReadBad>
     requires { at ≤ length view.now.bytes }
-    ensures tells { Tells (any_byte.read view.now at) result }
+    ensures agrees { Agrees (any_byte.read view.now at) result }
     ensures within { IfOk result (λ x. x.1 ≤ length view.now.bytes) }
 {
     match view.bytes().get(at) {
@@ -26,7 +26,7 @@ pub(crate) fn read_byte(view: &View, at: usize) -> Result<(u8, usize), ReadBad>
 /// This byte and no other.
 pub(crate) fn read_tag(view: &View, at: usize, wanted: u8) -> Result<(u8, usize), ReadBad>
     requires { at ≤ length view.now.bytes }
-    ensures tells { Tells ((tag wanted).read view.now at) result }
+    ensures agrees { Agrees ((tag wanted).read view.now at) result }
     ensures within { IfOk result (λ x. x.1 ≤ length view.now.bytes) }
 {
     let (byte, next) = read_byte(view, at)?;
@@ -50,7 +50,7 @@ fn number_trouble(view: &View, at: usize, bad: LebBad) -> ReadBad
 /// A number below 2^32.
 pub(crate) fn read_u32(view: &View, at: usize) -> Result<(u32, usize), ReadBad>
     requires { at ≤ length view.now.bytes }
-    ensures tells { Tells (u32_form.read view.now at) result }
+    ensures agrees { Agrees (u32_form.read view.now at) result }
     ensures within { IfOk result (λ x. x.1 ≤ length view.now.bytes) }
 {
     match leb_u(view.bytes(), at, 32) {
@@ -62,7 +62,7 @@ pub(crate) fn read_u32(view: &View, at: usize) -> Result<(u32, usize), ReadBad>
 /// A number of 32 bits.
 pub(crate) fn read_s32(view: &View, at: usize) -> Result<(i32, usize), ReadBad>
     requires { at ≤ length view.now.bytes }
-    ensures tells { Tells (s32_form.read view.now at) result }
+    ensures agrees { Agrees (s32_form.read view.now at) result }
     ensures within { IfOk result (λ x. x.1 ≤ length view.now.bytes) }
 {
     match leb_s(view.bytes(), at, 32) {
@@ -74,7 +74,7 @@ pub(crate) fn read_s32(view: &View, at: usize) -> Result<(i32, usize), ReadBad>
 /// A number of 33 bits.
 pub(crate) fn read_s33(view: &View, at: usize) -> Result<(i64, usize), ReadBad>
     requires { at ≤ length view.now.bytes }
-    ensures tells { Tells (s33_form.read view.now at) result }
+    ensures agrees { Agrees (s33_form.read view.now at) result }
     ensures small { IfOk result (λ x. HasBits 33 x.0) }
     ensures within { IfOk result (λ x. x.1 ≤ length view.now.bytes) }
 {
@@ -87,7 +87,7 @@ pub(crate) fn read_s33(view: &View, at: usize) -> Result<(i64, usize), ReadBad>
 /// A number of 64 bits.
 pub(crate) fn read_s64(view: &View, at: usize) -> Result<(i64, usize), ReadBad>
     requires { at ≤ length view.now.bytes }
-    ensures tells { Tells (s64_form.read view.now at) result }
+    ensures agrees { Agrees (s64_form.read view.now at) result }
     ensures within { IfOk result (λ x. x.1 ≤ length view.now.bytes) }
 {
     match leb_s(view.bytes(), at, 64) {

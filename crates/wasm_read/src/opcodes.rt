@@ -1,8 +1,8 @@
 // Opcodes (Binary Format, Instructions).
 ghost use Rattle.std.specs.Prelude.{◌≡◌, ◌≤◌, length, ◌≢◌, IfOk};
-ghost use Rattle.owi_base.specs.Forms.{checked, located};
+ghost use Rattle.grammar_forms.specs.Forms.{checked, located};
 ghost use Rattle.wasm_binary.specs.Instructions.{opcode, allowed, is_opcode as is_opcode_around, is_outside as is_outside_byte};
-ghost use Rattle.wasm_read.specs.Views.{Tells};
+ghost use Rattle.wasm_read.specs.Views.{Agrees};
 
 use crate::bad::ReadBad;
 use crate::numbers::{read_byte, read_u32};
@@ -49,7 +49,7 @@ pub(crate) fn read_opcode(
     context: &Context,
 ) -> Result<(Opcode, usize), ReadBad>
     requires { at ≤ length view.now.bytes }
-    ensures tells { Tells ((checked opcode (allowed context.now)).read view.now at) result }
+    ensures agrees { Agrees ((checked opcode (allowed context.now)).read view.now at) result }
     ensures within { IfOk result (λ x. x.1 ≤ length view.now.bytes) }
 {
     let (first, next) = read_byte(view, at)?;
@@ -69,7 +69,7 @@ fn judge_byte(
     context: &Context,
 ) -> Result<(Opcode, usize), ReadBad>
     requires { first ≢ 0xFC }
-    ensures tells { Tells (located at next (allowed context.now (record { first = first; second = 0 }))) result }
+    ensures agrees { Agrees (located at next (allowed context.now (record { first = first; second = 0 }))) result }
     ensures there { IfOk result (λ x. x.1 ≡ next) }
 {
     if is_opcode(first, context) {
@@ -88,7 +88,7 @@ fn judge_number(
     next: usize,
     context: &Context,
 ) -> Result<(Opcode, usize), ReadBad>
-    ensures tells { Tells (located at next (allowed context.now (record { first = 0xFC; second = second }))) result }
+    ensures agrees { Agrees (located at next (allowed context.now (record { first = 0xFC; second = second }))) result }
     ensures there { IfOk result (λ x. x.1 ≡ next) }
 {
     if second < 8 {

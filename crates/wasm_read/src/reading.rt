@@ -3,10 +3,10 @@ ghost use Rattle.std.specs.Prelude.{◌≡◌, ◌≢◌, List, false, MatchBool
 ghost use Rattle.wasm_ast.specs.declared.modules.Custom.{Custom as OneCustom};
 ghost use Rattle.wasm_binary.specs.Modules.{no_sections, front, fixed_byte, module_of as module_by};
 ghost use Rattle.wasm_binary.specs.Reading.{read_binary, read_sections as read_all_sections};
-ghost use Rattle.owi_base.specs.Forms.{any_byte, checked};
+ghost use Rattle.grammar_forms.specs.Forms.{any_byte, checked};
 ghost use Rattle.wasm_read.specs.Refusals.{fault_of};
 ghost use Rattle.wasm_read.specs.Stripped.{Keeps};
-ghost use Rattle.wasm_read.specs.Views.{Tells};
+ghost use Rattle.wasm_read.specs.Views.{Agrees};
 ghost use Rattle.wasm_read.specs.Wholes.{Answers};
 
 use crate::assembly::module_of;
@@ -23,7 +23,7 @@ use wasm_ast::Module;
 // A byte of the magic number or the version.
 fn read_fixed(view: &View, at: usize, wanted: u8) -> Result<(u8, usize), ReadBad>
     requires { at ≤ length view.now.bytes }
-    ensures tells { Tells ((checked any_byte (fixed_byte wanted)).read view.now at) result }
+    ensures agrees { Agrees ((checked any_byte (fixed_byte wanted)).read view.now at) result }
     ensures within { IfOk result (λ x. x.1 ≤ length view.now.bytes) }
 {
     let (byte, next) = read_byte(view, at)?;
@@ -36,7 +36,7 @@ fn read_fixed(view: &View, at: usize, wanted: u8) -> Result<(u8, usize), ReadBad
 
 // The magic number and the version.
 fn read_front(view: &View) -> Result<(u8, usize), ReadBad>
-    ensures tells { Tells (front.read view.now 0) result }
+    ensures agrees { Agrees (front.read view.now 0) result }
     ensures within { IfOk result (λ x. x.1 ≤ length view.now.bytes) }
 {
     let (_, at) = read_fixed(view, 0, 0x00)?;

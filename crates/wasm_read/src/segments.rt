@@ -1,9 +1,9 @@
 // Element and data segments (Binary Format, Modules: Element Section, Data Section).
 ghost use Rattle.std.specs.Prelude.{◌≤◌, length, IfOk};
-ghost use Rattle.owi_base.specs.Forms.{when◌form◌else◌};
+ghost use Rattle.grammar_forms.specs.Forms.{when◌form◌else◌};
 ghost use Rattle.wasm_binary.specs.Values.{vec};
-ghost use Rattle.wasm_binary.specs.Parts.{constant, flag_below, active_on, active, elem_mode, elem_kind, elem_kind_byte, func_item, elem as elem_form, data_mode, segment as segment_form};
-ghost use Rattle.wasm_read.specs.Views.{Tells};
+ghost use Rattle.wasm_binary.specs.SectionEntries.{constant, flag_below, active_on, active, elem_mode, elem_kind, elem_kind_byte, func_item, elem as elem_form, data_mode, segment as segment_form};
+ghost use Rattle.wasm_read.specs.Views.{Agrees};
 
 use crate::bad::ReadBad;
 use crate::entries::Entry;
@@ -19,7 +19,7 @@ use wasm_ast::{Elem, Expr, Instr, List, Mode, Segment, ValType};
 // A flag below a bound.
 fn read_flag(view: &View, at: usize, bound: u32) -> Result<(u32, usize), ReadBad>
     requires { at ≤ length view.now.bytes }
-    ensures tells { Tells ((flag_below bound).read view.now at) result }
+    ensures agrees { Agrees ((flag_below bound).read view.now at) result }
     ensures within { IfOk result (λ x. x.1 ≤ length view.now.bytes) }
 {
     let (flag, next) = read_u32(view, at)?;
@@ -38,7 +38,7 @@ fn read_active_on(
     index: u32,
 ) -> Result<(Mode, usize), ReadBad>
     requires { at ≤ length view.now.bytes }
-    ensures tells { Tells ((active_on index).read view.now at) result }
+    ensures agrees { Agrees ((active_on index).read view.now at) result }
     ensures within { IfOk result (λ x. x.1 ≤ length view.now.bytes) }
 {
     let (offset, at) = read_expr(alloc, view, at, true)?;
@@ -48,7 +48,7 @@ fn read_active_on(
 // The index of a table or memory and the offset there.
 fn read_active(alloc: Global, view: &View, at: usize) -> Result<(Mode, usize), ReadBad>
     requires { at ≤ length view.now.bytes }
-    ensures tells { Tells (active.read view.now at) result }
+    ensures agrees { Agrees (active.read view.now at) result }
     ensures within { IfOk result (λ x. x.1 ≤ length view.now.bytes) }
 {
     let (index, at) = read_u32(view, at)?;
@@ -63,7 +63,7 @@ fn read_elem_mode(
     flag: u32,
 ) -> Result<(Mode, usize), ReadBad>
     requires { at ≤ length view.now.bytes }
-    ensures tells { Tells ((elem_mode flag).read view.now at) result }
+    ensures agrees { Agrees ((elem_mode flag).read view.now at) result }
     ensures within { IfOk result (λ x. x.1 ≤ length view.now.bytes) }
 {
     match flag {
@@ -77,7 +77,7 @@ fn read_elem_mode(
 // The byte that says that an element segment has function references.
 fn read_elem_kind_byte(view: &View, at: usize) -> Result<(ValType, usize), ReadBad>
     requires { at ≤ length view.now.bytes }
-    ensures tells { Tells (elem_kind_byte.read view.now at) result }
+    ensures agrees { Agrees (elem_kind_byte.read view.now at) result }
     ensures within { IfOk result (λ x. x.1 ≤ length view.now.bytes) }
 {
     let (_, at) = read_tag(view, at, 0x00)?;
@@ -87,7 +87,7 @@ fn read_elem_kind_byte(view: &View, at: usize) -> Result<(ValType, usize), ReadB
 // The type of an element segment's references, by its flag.
 fn read_elem_kind(view: &View, at: usize, flag: u32) -> Result<(ValType, usize), ReadBad>
     requires { at ≤ length view.now.bytes }
-    ensures tells { Tells ((elem_kind flag).read view.now at) result }
+    ensures agrees { Agrees ((elem_kind flag).read view.now at) result }
     ensures within { IfOk result (λ x. x.1 ≤ length view.now.bytes) }
 {
     match flag {
@@ -100,7 +100,7 @@ fn read_elem_kind(view: &View, at: usize, flag: u32) -> Result<(ValType, usize),
 // The index of a function, which stands for the expression that refers to it.
 fn read_func_item(alloc: Global, view: &View, at: usize) -> Result<(Expr, usize), ReadBad>
     requires { at ≤ length view.now.bytes }
-    ensures tells { Tells (func_item.read view.now at) result }
+    ensures agrees { Agrees (func_item.read view.now at) result }
     ensures within { IfOk result (λ x. x.1 ≤ length view.now.bytes) }
 {
     let (func, at) = read_u32(view, at)?;
@@ -111,8 +111,8 @@ fn read_func_item(alloc: Global, view: &View, at: usize) -> Result<(Expr, usize)
 
 // Of an element segment: a function's index, or an expression.
 impl EntryBy for Expr {
-    ghost use Rattle.owi_base.specs.Forms.{when◌form◌else◌};
-    ghost use Rattle.wasm_binary.specs.Parts.{constant, func_item};
+    ghost use Rattle.grammar_forms.specs.Forms.{when◌form◌else◌};
+    ghost use Rattle.wasm_binary.specs.SectionEntries.{constant, func_item};
 
     ghost form = { λ by_index. when by_index form func_item else constant };
 
@@ -133,7 +133,7 @@ impl EntryBy for Expr {
 /// An element segment.
 pub(crate) fn read_elem(alloc: Global, view: &View, at: usize) -> Result<(Elem, usize), ReadBad>
     requires { at ≤ length view.now.bytes }
-    ensures tells { Tells (elem_form.read view.now at) result }
+    ensures agrees { Agrees (elem_form.read view.now at) result }
     ensures within { IfOk result (λ x. x.1 ≤ length view.now.bytes) }
 {
     let (flag, at) = read_flag(view, at, 8)?;
@@ -152,7 +152,7 @@ fn read_data_mode(
     flag: u32,
 ) -> Result<(Mode, usize), ReadBad>
     requires { at ≤ length view.now.bytes }
-    ensures tells { Tells ((data_mode flag).read view.now at) result }
+    ensures agrees { Agrees ((data_mode flag).read view.now at) result }
     ensures within { IfOk result (λ x. x.1 ≤ length view.now.bytes) }
 {
     match flag {
@@ -169,7 +169,7 @@ pub(crate) fn read_segment(
     at: usize,
 ) -> Result<(Segment, usize), ReadBad>
     requires { at ≤ length view.now.bytes }
-    ensures tells { Tells (segment_form.read view.now at) result }
+    ensures agrees { Agrees (segment_form.read view.now at) result }
     ensures within { IfOk result (λ x. x.1 ≤ length view.now.bytes) }
 {
     let (flag, at) = read_flag(view, at, 3)?;
@@ -179,7 +179,7 @@ pub(crate) fn read_segment(
 }
 
 impl Entry for Elem {
-    ghost use Rattle.wasm_binary.specs.Parts.{elem};
+    ghost use Rattle.wasm_binary.specs.SectionEntries.{elem};
 
     ghost form = { elem };
 
@@ -189,7 +189,7 @@ impl Entry for Elem {
 }
 
 impl Entry for Segment {
-    ghost use Rattle.wasm_binary.specs.Parts.{segment};
+    ghost use Rattle.wasm_binary.specs.SectionEntries.{segment};
 
     ghost form = { segment };
 

@@ -3,7 +3,7 @@
 
 ghost use Rattle.std.specs.Prelude.{◌≢◌, ◌≤◌, length, IfOk};
 ghost use Rattle.wasm_binary.specs.Instructions.{after_FC};
-ghost use Rattle.wasm_read.specs.Views.{Tells};
+ghost use Rattle.wasm_read.specs.Views.{Agrees};
 
 use crate::bad::ReadBad;
 use crate::numbers::{read_tag, read_u32};
@@ -13,7 +13,7 @@ use wasm_ast::Instr;
 /// What follows the opcode FC and its number, which is from 8 to 17.
 pub(crate) fn read_after_fc(view: &View, at: usize, number: u32) -> Result<(Instr, usize), ReadBad>
     requires { at ≤ length view.now.bytes }
-    ensures tells { Tells ((after_FC number).read view.now at) result }
+    ensures agrees { Agrees ((after_FC number).read view.now at) result }
     ensures within { IfOk result (λ x. x.1 ≤ length view.now.bytes) }
 {
     match number {
@@ -46,7 +46,7 @@ fn read_on_table(view: &View, at: usize, number: u32) -> Result<(Instr, usize), 
     requires no_data_drop { number ≢ 9 }
     requires no_memory_copy { number ≢ 10 }
     requires no_memory_fill { number ≢ 11 }
-    ensures tells { Tells ((after_FC number).read view.now at) result }
+    ensures agrees { Agrees ((after_FC number).read view.now at) result }
     ensures within { IfOk result (λ x. x.1 ≤ length view.now.bytes) }
 {
     let (first, at) = read_u32(view, at)?;

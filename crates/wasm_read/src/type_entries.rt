@@ -2,7 +2,7 @@
 // Section).
 ghost use Rattle.std.specs.Prelude.{◌≤◌, length, IfOk};
 ghost use Rattle.wasm_binary.specs.Types.{func_type};
-ghost use Rattle.wasm_read.specs.Views.{Tells};
+ghost use Rattle.wasm_read.specs.Views.{Agrees};
 
 use crate::bad::ReadBad;
 use crate::entries::{Entry, read_vec};
@@ -19,7 +19,7 @@ pub(crate) fn read_func_type(
     at: usize,
 ) -> Result<(FuncType, usize), ReadBad>
     requires { at ≤ length view.now.bytes }
-    ensures tells { Tells (func_type.read view.now at) result }
+    ensures agrees { Agrees (func_type.read view.now at) result }
     ensures within { IfOk result (λ x. x.1 ≤ length view.now.bytes) }
 {
     let (_, at) = read_tag(view, at, 0x60)?;

@@ -1,9 +1,9 @@
 // Types (Binary Format, Types).
 ghost use Rattle.std.specs.Prelude.{◌<◌, ◌≤◌, length, IfOk, Some, Ok, Err};
-ghost use Rattle.owi_base.specs.Forms.{any_byte, checked};
+ghost use Rattle.grammar_forms.specs.Forms.{any_byte, checked};
 ghost use Rattle.wasm_binary.specs.Values.{s33};
 ghost use Rattle.wasm_binary.specs.Types.{ref_type, val_type, one_of, maximum, limits, table_type, global_type, block_type, short_block_type, type_index};
-ghost use Rattle.wasm_read.specs.Views.{Tells};
+ghost use Rattle.wasm_read.specs.Views.{Agrees};
 
 use crate::bad::ReadBad;
 use crate::numbers::{read_byte, read_s33, read_u32};
@@ -13,7 +13,7 @@ use wasm_ast::{BlockType, GlobalType, Limits, TableType, ValType};
 /// A reference type.
 pub(crate) fn read_ref_type(view: &View, at: usize) -> Result<(ValType, usize), ReadBad>
     requires { at ≤ length view.now.bytes }
-    ensures tells { Tells (ref_type.read view.now at) result }
+    ensures agrees { Agrees (ref_type.read view.now at) result }
     ensures within { IfOk result (λ x. x.1 ≤ length view.now.bytes) }
 {
     let (byte, next) = read_byte(view, at)?;
@@ -27,7 +27,7 @@ pub(crate) fn read_ref_type(view: &View, at: usize) -> Result<(ValType, usize), 
 /// A value type.
 pub(crate) fn read_val_type(view: &View, at: usize) -> Result<(ValType, usize), ReadBad>
     requires { at ≤ length view.now.bytes }
-    ensures tells { Tells (val_type.read view.now at) result }
+    ensures agrees { Agrees (val_type.read view.now at) result }
     ensures within { IfOk result (λ x. x.1 ≤ length view.now.bytes) }
 {
     let (byte, next) = read_byte(view, at)?;
@@ -44,7 +44,7 @@ pub(crate) fn read_val_type(view: &View, at: usize) -> Result<(ValType, usize), 
 /// One of the bytes 0, 1, .. below a bound.
 pub(crate) fn read_one_of(view: &View, at: usize, bound: u8) -> Result<(u8, usize), ReadBad>
     requires { at ≤ length view.now.bytes }
-    ensures tells { Tells ((one_of bound).read view.now at) result }
+    ensures agrees { Agrees ((one_of bound).read view.now at) result }
     ensures within { IfOk result (λ x. x.1 ≤ length view.now.bytes) }
 {
     let (byte, next) = read_byte(view, at)?;
@@ -58,7 +58,7 @@ pub(crate) fn read_one_of(view: &View, at: usize, bound: u8) -> Result<(u8, usiz
 // The maximum, where there is one.
 fn read_maximum(view: &View, at: usize, bounded: u8) -> Result<(Option<u32>, usize), ReadBad>
     requires { at ≤ length view.now.bytes }
-    ensures tells { Tells ((maximum bounded).read view.now at) result }
+    ensures agrees { Agrees ((maximum bounded).read view.now at) result }
     ensures within { IfOk result (λ x. x.1 ≤ length view.now.bytes) }
 {
     if bounded == 1 {
@@ -72,7 +72,7 @@ fn read_maximum(view: &View, at: usize, bounded: u8) -> Result<(Option<u32>, usi
 /// Limits.
 pub(crate) fn read_limits(view: &View, at: usize) -> Result<(Limits, usize), ReadBad>
     requires { at ≤ length view.now.bytes }
-    ensures tells { Tells (limits.read view.now at) result }
+    ensures agrees { Agrees (limits.read view.now at) result }
     ensures within { IfOk result (λ x. x.1 ≤ length view.now.bytes) }
 {
     let (bounded, at) = read_one_of(view, at, 2)?;
@@ -84,7 +84,7 @@ pub(crate) fn read_limits(view: &View, at: usize) -> Result<(Limits, usize), Rea
 /// A table's type.
 pub(crate) fn read_table_type(view: &View, at: usize) -> Result<(TableType, usize), ReadBad>
     requires { at ≤ length view.now.bytes }
-    ensures tells { Tells (table_type.read view.now at) result }
+    ensures agrees { Agrees (table_type.read view.now at) result }
     ensures within { IfOk result (λ x. x.1 ≤ length view.now.bytes) }
 {
     let (kind, at) = read_ref_type(view, at)?;
@@ -95,7 +95,7 @@ pub(crate) fn read_table_type(view: &View, at: usize) -> Result<(TableType, usiz
 /// A global's type.
 pub(crate) fn read_global_type(view: &View, at: usize) -> Result<(GlobalType, usize), ReadBad>
     requires { at ≤ length view.now.bytes }
-    ensures tells { Tells (global_type.read view.now at) result }
+    ensures agrees { Agrees (global_type.read view.now at) result }
     ensures within { IfOk result (λ x. x.1 ≤ length view.now.bytes) }
 {
     let (kind, at) = read_val_type(view, at)?;
@@ -107,7 +107,7 @@ pub(crate) fn read_global_type(view: &View, at: usize) -> Result<(GlobalType, us
 /// A block type: none, one value type, or the index of a function type.
 pub(crate) fn read_block_type(view: &View, at: usize) -> Result<(BlockType, usize), ReadBad>
     requires { at ≤ length view.now.bytes }
-    ensures tells { Tells (block_type.read view.now at) result }
+    ensures agrees { Agrees (block_type.read view.now at) result }
     ensures within { IfOk result (λ x. x.1 ≤ length view.now.bytes) }
 {
     let (byte, _) = read_byte(view, at)?;
@@ -121,7 +121,7 @@ pub(crate) fn read_block_type(view: &View, at: usize) -> Result<(BlockType, usiz
 // A block type of one byte.
 fn read_short_block_type(view: &View, at: usize) -> Result<(BlockType, usize), ReadBad>
     requires { at ≤ length view.now.bytes }
-    ensures tells { Tells ((checked any_byte short_block_type).read view.now at) result }
+    ensures agrees { Agrees ((checked any_byte short_block_type).read view.now at) result }
     ensures within { IfOk result (λ x. x.1 ≤ length view.now.bytes) }
 {
     let (byte, next) = read_byte(view, at)?;
@@ -135,7 +135,7 @@ fn read_short_block_type(view: &View, at: usize) -> Result<(BlockType, usize), R
 // The index of a function type, as a number of 33 bits that isn't negative.
 fn read_type_index(view: &View, at: usize) -> Result<(BlockType, usize), ReadBad>
     requires { at ≤ length view.now.bytes }
-    ensures tells { Tells ((checked s33 type_index).read view.now at) result }
+    ensures agrees { Agrees ((checked s33 type_index).read view.now at) result }
     ensures within { IfOk result (λ x. x.1 ≤ length view.now.bytes) }
 {
     let (index, next) = read_s33(view, at)?;

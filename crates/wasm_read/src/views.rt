@@ -1,6 +1,6 @@
 // The bytes that a reader sees.
 ghost use Rattle.std.specs.Prelude.{◌≡◌, ℕ, ◌+◌, ◌≤◌, length, Some};
-ghost use Rattle.owi_base.specs.Forms.{up_to as window_up_to, left_over as left_over_in};
+ghost use Rattle.grammar_forms.specs.Forms.{up_to as window_up_to, left_over as left_over_in};
 ghost use Rattle.wasm_binary.specs.Faults.{size};
 ghost use Rattle.wasm_binary.specs.Modules.{whole as whole_window};
 ghost use Rattle.wasm_read.specs.Refusals.{fault_of};
@@ -16,7 +16,7 @@ pub(crate) struct View<'a> {
 }
 
 impl<'a> Model for View<'a> {
-    ghost use Rattle.owi_base.specs.Forms.{Window};
+    ghost use Rattle.grammar_forms.specs.Forms.{Window};
     ghost use Rattle.wasm_binary.specs.Faults.{Fault};
     ghost use Rattle.wasm_read.specs.Views.{window_of};
 

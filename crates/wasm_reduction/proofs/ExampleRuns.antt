@@ -103,6 +103,14 @@ memory_examples = record {
 pub instantiation_examples : InstantiationExamples
 unfolding operator_of load_of store_of
 instantiation_examples = record {
+  global_by_one_before = (80, refl);
+  global_by_one_after = refl;
+  global_by_itself = refl;
+  product_wraps = refl;
+  difference_wraps = refl;
+  wide_difference = refl;
+  operand_left_over = refl;
+  operand_lacks = refl;
   element_at_the_end = (80, refl);
   element_past_the_end = (80, refl);
   elements_first = (80, refl);

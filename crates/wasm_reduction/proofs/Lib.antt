@@ -1,4 +1,5 @@
 pub mod ExampleRuns
+pub mod ScriptExampleRuns
 pub mod Moves
 pub mod Endings
 pub mod OneRun
@@ -10,6 +11,13 @@ pub mod WideParts
 pub mod MapLemmas
 pub mod MapSteps
 pub mod WideSteps
+pub mod ConstantStarts
 pub mod WideStarts
 pub mod MapRuns
 pub mod ListedRuns
+pub mod AssumeSteps
+pub mod ScriptRuns
+pub mod ScriptLaws
+pub mod ScriptPlaces
+pub mod ScriptAgain
+pub mod ScriptEnds

@@ -12,17 +12,17 @@ use Rattle.wasm_reduction.specs.Runs.{Trace, Going, Halt, Stands, no_trace, star
 use Rattle.wasm_reduction.specs.RunImages.{trace_of, IsAnswered, BeginsWith, AsksNext}
 use Rattle.wasm_reduction.proofs.WideStarts.{map-of}
 
-begins-self : (xs : List ℕ) → BeginsWith xs xs
+pub begins-self : (xs : List ℕ) → BeginsWith xs xs
 begins-self xs = ([], sym (append-nil xs))
 
-begins-trans : (xs ys zs : List ℕ) → BeginsWith ys xs → BeginsWith zs ys → BeginsWith zs xs
+pub begins-trans : (xs ys zs : List ℕ) → BeginsWith ys xs → BeginsWith zs ys → BeginsWith zs xs
 begins-trans xs ys zs h k = (h.0 ++ k.0, k.1 ∙ ap (λ l. l ++ k.0) h.1 ∙ append_assoc xs h.0 k.0)
 
-next-get : (xs zs : List ℕ) (a : ℕ) → slice_get (xs ++ a ∷ zs) (length xs) ≡ Some a
+pub next-get : (xs zs : List ℕ) (a : ℕ) → slice_get (xs ++ a ∷ zs) (length xs) ≡ Some a
 next-get [] zs a = refl
 next-get (x ∷ xs) zs a = next-get xs zs a
 
-get-past : (xs : List ℕ) → slice_get xs (length xs) ≡ None
+pub get-past : (xs : List ℕ) → slice_get xs (length xs) ≡ None
 get-past [] = refl
 get-past (x ∷ xs) = get-past xs
 
@@ -43,7 +43,7 @@ next-within A given n b e = at b.0 b.1
         (zs, f ∙ ap (λ z. given ++ z ∷ zs) same ∙ sym (append_assoc given (n ∷ []) zs))
 
 -- nothing is past those that it begins with
-all-given : (A given : List ℕ) → BeginsWith A given → slice_get A (length given) ≡ None → given ≡ A
+pub all-given : (A given : List ℕ) → BeginsWith A given → slice_get A (length given) ≡ None → given ≡ A
 all-given A given b e = at b.0 b.1
   where
     at : (zs : List ℕ) → A ≡ given ++ zs → given ≡ A
@@ -166,7 +166,7 @@ module _ {W : Type 0} (K : Kind W) (draw : ℕ → Bool → W) (m : Module) (ste
             let trace : g.trace ≡ trace = cc in
             (ap (λ p. Asks p v) question ∙ ap (λ v. Asks q v) word, trace, f)
 
-    turn-asks : (g : Going W) (q : Question) (w : W) (trace : Trace) → follow K draw (by_list A) m steps g ≡ Over (Stands q w) trace → IsAsking g q w × (g.trace ≡ trace) × (slice_get A (length g.trace.answers) ≡ None)
+    pub turn-asks : (g : Going W) (q : Question) (w : W) (trace : Trace) → follow K draw (by_list A) m steps g ≡ Over (Stands q w) trace → IsAsking g q w × (g.trace ≡ trace) × (slice_get A (length g.trace.answers) ≡ None)
     turn-asks g q w trace e =
         let deep = choice-asks (nat_lt most_frames (length g.config.callers)) (Over Deep g.trace) (λ reply. if is_due g.config.frame.here.code g.config.callers && nat_le steps g.config.units then Over Bound g.trace else follow_by draw reply g (step K m g.config)) (Over (Stands q w) trace) (λ e. cc) e in
         let due = choice-asks (is_due g.config.frame.here.code g.config.callers && nat_le steps g.config.units) (Over Bound g.trace) (λ reply. follow_by draw reply g (step K m g.config)) (Over (Stands q w) trace) (λ e. cc) deep.1 in
@@ -339,11 +339,11 @@ run-over m entry args input steps n run (Over halt trace) e =
     let found = map-of (outcome_of halt) (λ outcome. record { outcome = outcome; draws = draws_from input 0 trace.symbols; answers = trace.answers }) run e in
     (halt, trace, refl, ap (λ run. run.answers) found.2)
 
-begins-empty : (x : Result (Config ℕ) (End ℕ)) (g : Going ℕ) → started_by x ≡ On g → g.trace.answers ≡ []
+pub begins-empty : (x : Result (Config ℕ) (End ℕ)) (g : Going ℕ) → started_by x ≡ On g → g.trace.answers ≡ []
 begins-empty (Ok c) g e = let same : record { config = c; trace = no_trace } ≡ g = cc in sym (ap (λ g. g.trace.answers) same)
 begins-empty (Err x) g e = absurd cc
 
-begins-unasked : (x : Result (Config ℕ) (End ℕ)) (q : Question) (w : ℕ) (trace : Trace) → started_by x ≡ Over (Stands q w) trace → ⊥
+pub begins-unasked : (x : Result (Config ℕ) (End ℕ)) (q : Question) (w : ℕ) (trace : Trace) → started_by x ≡ Over (Stands q w) trace → ⊥
 begins-unasked (Ok c) q w trace e = cc
 begins-unasked (Err x) q w trace e = cc
 

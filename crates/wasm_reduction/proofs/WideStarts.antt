@@ -33,15 +33,18 @@ use Rattle.wasm_reduction.specs.Combinators.{written}
 use Rattle.wasm_reduction.specs.Tables.{null_of}
 use Rattle.wasm_reduction.specs.Memories.{page_bytes}
 use Rattle.wasm_reduction.specs.Images.{value_image, values_image, store_image}
-use Rattle.wasm_reduction.specs.Instantiation.{constant, only_instruction, value_of, reference_in, offset_in, all_of, first_globals, first_elems, first_tables, allocated, allocated_with, Instantiated, with_part, in_range, after, start_elem, start_data, start_elems, start_datas, instantiated, argument, start_call, invoked, first_config}
+use Rattle.wasm_reduction.specs.Instantiation.{reference_in, offset_in, all_of, first_globals, first_elems, first_tables, allocated, allocated_with, Instantiated, with_part, in_range, after, start_elem, start_data, start_elems, start_datas, instantiated, argument, start_call, invoked, first_config}
 use Rattle.wasm_reduction.specs.Maps.{ValueHas, ValuesHave, InRange}
-use Rattle.wasm_reduction.specs.Widths.{NumbersFit, ExprFits, HasNumbers, ArgumentFits, IsMemorySize, AreBytes, StoreHasWidths, HasWidths}
+use Rattle.wasm_ast.specs.Ranges.{InstrInRange, ExprInRange, FuncInRange, SegmentInRange}
+use Rattle.wasm_reduction.specs.Widths.{HasNumbers, ArgumentFits, IsMemorySize, AreBytes, StoreHasWidths, HasWidths}
+pub use Rattle.wasm_reduction.proofs.ConstantStarts.{some-of, map-of}
+use Rattle.wasm_reduction.proofs.ConstantStarts.{globals-have}
 use Rattle.wasm_reduction.proofs.WideParts.{each-get, each-of, each-set, each-append, written-length, written-all, have-reverse}
 use Rattle.wasm_reduction.proofs.WideSteps.{CodeInRange}
 
 -- ---- the code of functions
 
-instr-in-range : (i : Instr) → InstrHasShape i → NumbersFit i → InRange i
+instr-in-range : (i : Instr) → InstrHasShape i → InstrInRange i → InRange i
 instr-in-range (BrTable labels last) s f = s
 instr-in-range (Load op align offset) s f = f
 instr-in-range (StoreInstr op align offset) s f = f
@@ -49,18 +52,18 @@ instr-in-range (Const32 n) s f = f
 instr-in-range (Const64 n) s f = f
 instr-in-range _ s f = tt
 
-instrs-in-range : (is : List Instr) → All InstrHasShape is → All NumbersFit is → AllByRecursion InRange is
+instrs-in-range : (is : List Instr) → All InstrHasShape is → All InstrInRange is → AllByRecursion InRange is
 instrs-in-range [] s f = tt
-instrs-in-range (i ∷ is) s f = (instr-in-range i (All-head InstrHasShape i is s) (All-head NumbersFit i is f), instrs-in-range is (All-tail InstrHasShape i is s) (All-tail NumbersFit i is f))
+instrs-in-range (i ∷ is) s f = (instr-in-range i (All-head InstrHasShape i is s) (All-head InstrInRange i is f), instrs-in-range is (All-tail InstrHasShape i is s) (All-tail InstrInRange i is f))
 
 abbrev SeqsInRange : List (List Instr) → Type 0
 SeqsInRange seqs = AllByRecursion (λ is. AllByRecursion InRange is) seqs
 
-seqs-in-range : (seqs : List (List Instr)) → All SeqHasShape seqs → All (λ is. All NumbersFit is) seqs → SeqsInRange seqs
+seqs-in-range : (seqs : List (List Instr)) → All SeqHasShape seqs → All (λ is. All InstrInRange is) seqs → SeqsInRange seqs
 seqs-in-range [] s f = tt
 seqs-in-range (is ∷ rest) s f = (
-  instrs-in-range is (let one : SeqHasShape is = All-head SeqHasShape is rest s in one.each) (All-head (λ is. All NumbersFit is) is rest f),
-  seqs-in-range rest (All-tail SeqHasShape is rest s) (All-tail (λ is. All NumbersFit is) is rest f),
+  instrs-in-range is (let one : SeqHasShape is = All-head SeqHasShape is rest s in one.each) (All-head (λ is. All InstrInRange is) is rest f),
+  seqs-in-range rest (All-tail SeqHasShape is rest s) (All-tail (λ is. All InstrInRange is) is rest f),
 )
 
 abbrev BodyInRange : Function → Type 0
@@ -74,18 +77,18 @@ imports-in-range : (is : List Import) → AllByRecursion BodyInRange (filter_map
 imports-in-range [] = tt
 imports-in-range (i ∷ is) = one-import i (func_import i.kind) _ (imports-in-range is)
 
-own-in-range : (fs : List Func) → All FuncHasShape fs → All (λ f. ExprFits f.body) fs → AllByRecursion BodyInRange (map defined_as fs)
+own-in-range : (fs : List Func) → All FuncHasShape fs → All FuncInRange fs → AllByRecursion BodyInRange (map defined_as fs)
 own-in-range [] s h = tt
 own-in-range (f ∷ fs) s h = (
   (λ code e. let same : f ≡ code = cc in subst (λ f. SeqsInRange f.body.seqs) same
-      (let one : FuncHasShape f = All-head FuncHasShape f fs s in seqs-in-range f.body.seqs one.body.each (All-head (λ f. ExprFits f.body) f fs h))),
-  own-in-range fs (All-tail FuncHasShape f fs s) (All-tail (λ f. ExprFits f.body) f fs h),
+      (let one : FuncHasShape f = All-head FuncHasShape f fs s in let range : FuncInRange f = All-head FuncInRange f fs h in seqs-in-range f.body.seqs one.body.each range.body)),
+  own-in-range fs (All-tail FuncHasShape f fs s) (All-tail FuncInRange f fs h),
 )
 
 pub code-in-range : (m : Module) → HasNumbers m → CodeInRange m
 code-in-range m h x f code found is =
     each-get BodyInRange (functions m) x f
-    (each-append BodyInRange (filter_map (λ i. option_map (imported_as i) (func_import i.kind)) m.imports) (map defined_as m.funcs) (imports-in-range m.imports) (own-in-range m.funcs h.shape.funcs h.funcs))
+    (each-append BodyInRange (filter_map (λ i. option_map (imported_as i) (func_import i.kind)) m.imports) (map defined_as m.funcs) (imports-in-range m.imports) (own-in-range m.funcs h.shape.funcs h.range.funcs))
     found code is
 
 -- ---- all of several, where each is there
@@ -112,33 +115,6 @@ all-are P Q f g [] ys h e = let same : [] ≡ ys = cc in subst (AllByRecursion Q
 all-are P Q f g (x ∷ xs) ys h e =
     let b = both-are (f x) (all_of (map f xs)) ys e in
     subst (AllByRecursion Q) (sym b.both) (g x b.first h.0 b.is_first, all-are P Q f g xs b.others h.1 b.are_others)
-
--- ---- constants
-
-mapped : {A B : Type 0} (f : A → B) (o : Option A) (y : B) → option_map f o ≡ Some y → (x : A) × (f x ≡ y)
-mapped f None y e = absurd cc
-mapped f (Some x) y e = (x, cc)
-
-constant-has : (i : Instr) (v : Value ℕ) → NumbersFit i → constant [] i ≡ Some v → ValueHas HasNumber v
-constant-has (Const32 n) v f e = let same : I32 n ≡ v = cc in subst (ValueHas HasNumber) same f
-constant-has (Const64 n) v f e = let same : I64 n ≡ v = cc in subst (ValueHas HasNumber) same f
-constant-has (RefNull kind) v f e = let r = mapped Ref (null_of kind) v e in subst (ValueHas HasNumber) r.1 tt
-constant-has (RefFunc x) v f e = let same : Ref (FuncRef (Some x)) ≡ v = cc in subst (ValueHas HasNumber) same tt
-constant-has (GlobalGet x) v f e = absurd cc
-constant-has _ v f e = absurd cc
-
-value-has : (seqs : List (List Instr)) (v : Value ℕ) → All (λ is. All NumbersFit is) seqs → option_and_then (constant []) (only_instruction seqs) ≡ Some v → ValueHas HasNumber v
-value-has [] v f e = absurd cc
-value-has ([] ∷ rest) v f e = absurd cc
-value-has ((i ∷ []) ∷ []) v f e = constant-has i v (All-head NumbersFit i [] (All-head (λ is. All NumbersFit is) (i ∷ []) [] f)) e
-value-has ((i ∷ []) ∷ is ∷ rest) v f e = absurd cc
-value-has ((i ∷ j ∷ is) ∷ rest) v f e = absurd cc
-
-globals-have : (gs : List GlobalDef) (vs : List (Value ℕ)) → AllByRecursion (λ g. ExprFits g.init) gs → all_of (map (λ g. value_of [] g.init) gs) ≡ Some vs → ValuesHave HasNumber vs
-globals-have [] vs h e = let same : [] ≡ vs = cc in subst (ValuesHave HasNumber) same tt
-globals-have (g ∷ gs) vs h e =
-    let b = both-are (value_of [] g.init) (all_of (map (λ g. value_of [] g.init) gs)) vs e in
-    subst (ValuesHave HasNumber) (sym b.both) (value-has g.init.seqs b.first h.0 b.is_first, globals-have gs b.others h.1 b.are_others)
 
 -- ---- sizes
 
@@ -178,11 +154,11 @@ zeros : (memories : List Limits) → All (HasNumber 8) (zeros_of memories)
 zeros [] = All-nil (HasNumber 8)
 zeros (l ∷ rest) = All-append (HasNumber 8) (replicate (l.min * page_bytes) 0) (zeros_of rest) (All-replicate (HasNumber 8) (l.min * page_bytes) 0 (omega arith)) (zeros rest)
 
-segments-are : (ss : List Segment) → All SegmentHasShape ss → All (λ s. All (λ b. b < 2 ^ 8) s.bytes) ss → AllByRecursion AreBytes (map (λ s. s.bytes) ss)
+segments-are : (ss : List Segment) → All SegmentHasShape ss → All SegmentInRange ss → AllByRecursion AreBytes (map (λ s. s.bytes) ss)
 segments-are [] s h = tt
 segments-are (x ∷ ss) s h = (
-  record { each = All-head (λ s. All (λ b. b < 2 ^ 8) s.bytes) x ss h; short = let one : SegmentHasShape x = All-head SegmentHasShape x ss s in one.short },
-  segments-are ss (All-tail SegmentHasShape x ss s) (All-tail (λ s. All (λ b. b < 2 ^ 8) s.bytes) x ss h),
+  record { each = (let range : SegmentInRange x = All-head SegmentInRange x ss h in range.bytes); short = let one : SegmentHasShape x = All-head SegmentHasShape x ss s in one.short },
+  segments-are ss (All-tail SegmentHasShape x ss s) (All-tail SegmentInRange x ss h),
 )
 
 elems-few : (globals : List (Value ℕ)) (es : List Elem) (elems : List (List Reference)) → All ElemHasShape es → all_of (map (λ e. all_of (map (reference_in globals) e.items)) es) ≡ Some elems → AllByRecursion (λ t. length t < 2 ^ 32) elems
@@ -246,26 +222,18 @@ datas-start : (k : ℕ) (ds : List Segment) (s : Store ℕ) → StoreHasWidths H
 datas-start k [] s h = h
 datas-start k (d ∷ ds) s h = after-starts (start_data k d.mode s) (start_datas (k + 1) ds) (data-starts k d.mode s h) (λ s h. datas-start (k + 1) ds s h)
 
-pub some-of : {A B : Type 0} (o : Option A) (go : A → Option B) (y : B) → option_and_then go o ≡ Some y → (x : A) × (o ≡ Some x) × (go x ≡ Some y)
-some-of None go y e = absurd cc
-some-of (Some x) go y e = (x, refl, e)
-
-pub map-of : {A B : Type 0} (o : Option A) (go : A → B) (y : B) → option_map go o ≡ Some y → (x : A) × (o ≡ Some x) × (go x ≡ y)
-map-of None go y e = absurd cc
-map-of (Some x) go y e = (x, refl, cc)
-
 allocated-has : (m : Module) (s : Store ℕ) → HasNumbers m → IsValid m → IsReady m → allocated m ≡ Some s → StoreHasWidths HasNumber s
 allocated-has m s h valid ready e =
     let g = some-of (first_globals m) (allocated_with m) s e in
     let el = some-of (first_elems m g.0) _ s g.2 in
     let t = map-of (first_tables m) _ s el.2 in
     subst (StoreHasWidths HasNumber) t.2 (record {
-      globals = globals-have m.globals g.0 (each-of (λ g. ExprFits g.init) m.globals h.globals) g.1;
+      globals = globals-have [] m.globals g.0 tt (each-of (λ g. ExprInRange g.init) m.globals h.range.globals) g.1;
       tables = all-are (λ t. t.limits.min ≤ most_elements) (λ t. length t ≤ most_elements) (λ t. option_map (replicate t.limits.min) (null_of t.kind)) (λ t es l e. nulls-few t (null_of t.kind) es l e) m.tables t.0 (tables-few m ready) t.1;
       memory = zeros m.memories;
       memory_size = memory-few m.memories (λ k l e. (valid Memories k l e).first) (second-part (λ l. l.min ≤ most_pages) (imported_memories m) m.memories (each-of (λ l. l.min ≤ most_pages) (memories_of m) ready.fits.memories));
       elems = elems-few g.0 m.elems el.0 h.shape.elems el.1;
-      datas = segments-are m.segments h.shape.segments h.segments;
+      datas = segments-are m.segments h.shape.segments h.range.segments;
     })
 
 instantiated-fits : (m : Module) → HasNumbers m → IsValid m → IsReady m → StartFits (instantiated m)

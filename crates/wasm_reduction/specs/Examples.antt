@@ -8,6 +8,7 @@ use Rattle.wasm_ast.specs.declared.instructions.Instr.{Instr}
 use Rattle.wasm_ast.specs.declared.instructions.Instr.TheVariants.{Unreachable as UnreachableInstr, Nop, Block, Loop, If, Br, BrIf, BrTable, Return, Call, CallIndirect, RefNull, RefIsNull, RefFunc, Discard, Select, SelectTyped, LocalGet, LocalSet, LocalTee, GlobalGet, GlobalSet, TableGet, TableSet, TableInit, ElemDrop, TableCopy, TableGrow, TableSize, TableFill, Load, Store as StoreInstr, MemorySize, MemoryGrow, MemoryInit, DataDrop, MemoryCopy, MemoryFill, Const32, Const64, Num}
 use Rattle.wasm_ast.specs.declared.instructions.Expr.{Expr}
 use Rattle.wasm_ast.specs.declared.modules.ImportKind.TheVariants.{Func as FuncImport}
+use Rattle.wasm_ast.specs.declared.modules.GlobalDef.{GlobalDef}
 use Rattle.wasm_ast.specs.declared.modules.Import.{Import}
 use Rattle.wasm_ast.specs.declared.modules.Func.{Func}
 use Rattle.wasm_ast.specs.declared.modules.Space.TheVariants.{Func as FuncSpace}
@@ -21,7 +22,8 @@ use Rattle.wasm_ast.specs.declared.runs.Value.TheVariants.{I32, I64, Func as Fun
 use Rattle.wasm_ast.specs.declared.runs.Draw.{Draw}
 use Rattle.wasm_rules.specs.Words.{numbers, taken}
 use Rattle.wasm_check.specs.Operators.{arrow}
-use Rattle.wasm_reduction.specs.Configurations.{Reference, FuncRef, Store, Frame}
+use Rattle.wasm_reduction.specs.Configurations.{Reference, FuncRef, I64 as I64Value, Store, Frame}
+use Rattle.wasm_reduction.specs.Instantiation.{offset_in, value_of, first_globals}
 use Rattle.wasm_reduction.specs.Steps.{step}
 use Rattle.wasm_reduction.specs.Runs.{Going, Over, Deep, Reply, Run, no_trace, follow, follow_by, follows, by_value, run_of, IsRun}
 
@@ -57,8 +59,8 @@ abbrev pub returns : List Value → List ℕ → Run
 returns values answers = ends (Returns values) answers
 
 -- the function 0, without arguments or input, with the steps 100
-abbrev pub Runs : Module → Run → Type 0
-Runs m run = IsRun m 0 [] [] 100 run
+abbrev pub RunOf : Module → Run → Type 0
+RunOf m run = IsRun m 0 [] [] 100 run
 
 -- a frame with this code alone
 abbrev pub frame_with : List Instr → Frame ℕ
@@ -86,15 +88,15 @@ on64 op a b = one_body (Const64 a ∷ Const64 b ∷ Num op ∷ [])
 pub record NumericExamples : Type 0 where
   pub sum_at_two_steps : IsRun (on32 0x6A 2 3) 0 [] [] 2 (ends Bound [])
   pub sum_at_three_steps : IsRun (on32 0x6A 2 3) 0 [] [] 3 (returns (I32 5 ∷ []) [])
-  pub sum_wraps : Runs (on32 0x6A (2 ^ 32 - 1) 2) (returns (I32 1 ∷ []) [])
-  pub eqz : Runs (one_body (Const64 0 ∷ Num 0x50 ∷ [])) (returns (I32 1 ∷ []) [])
-  pub div_s_by_zero : Runs (on32 0x6D 1 0) (ends (Traps DivZero) (1 ∷ []))
-  pub rem_u_by_zero : Runs (on64 0x82 1 0) (ends (Traps DivZero) (1 ∷ []))
-  pub div_s_overflow : Runs (on32 0x6D (2 ^ 31) (2 ^ 32 - 1)) (ends (Traps Overflow) (0 ∷ 1 ∷ []))
-  pub div_s_overflow_64 : Runs (on64 0x7F (2 ^ 63) (2 ^ 64 - 1)) (ends (Traps Overflow) (0 ∷ 1 ∷ []))
-  pub div_s_of_the_least : Runs (on32 0x6D (2 ^ 31) 1) (returns (I32 (2 ^ 31) ∷ []) (0 ∷ 0 ∷ []))
-  pub rem_s_of_the_least : Runs (on32 0x6F (2 ^ 31) (2 ^ 32 - 1)) (returns (I32 0 ∷ []) (0 ∷ []))
-  pub div_u : Runs (on32 0x6E 7 2) (returns (I32 3 ∷ []) (0 ∷ []))
+  pub sum_wraps : RunOf (on32 0x6A (2 ^ 32 - 1) 2) (returns (I32 1 ∷ []) [])
+  pub eqz : RunOf (one_body (Const64 0 ∷ Num 0x50 ∷ [])) (returns (I32 1 ∷ []) [])
+  pub div_s_by_zero : RunOf (on32 0x6D 1 0) (ends (Traps DivZero) (1 ∷ []))
+  pub rem_u_by_zero : RunOf (on64 0x82 1 0) (ends (Traps DivZero) (1 ∷ []))
+  pub div_s_overflow : RunOf (on32 0x6D (2 ^ 31) (2 ^ 32 - 1)) (ends (Traps Overflow) (0 ∷ 1 ∷ []))
+  pub div_s_overflow_64 : RunOf (on64 0x7F (2 ^ 63) (2 ^ 64 - 1)) (ends (Traps Overflow) (0 ∷ 1 ∷ []))
+  pub div_s_of_the_least : RunOf (on32 0x6D (2 ^ 31) 1) (returns (I32 (2 ^ 31) ∷ []) (0 ∷ 0 ∷ []))
+  pub rem_s_of_the_least : RunOf (on32 0x6F (2 ^ 31) (2 ^ 32 - 1)) (returns (I32 0 ∷ []) (0 ∷ []))
+  pub div_u : RunOf (on32 0x6E 7 2) (returns (I32 3 ∷ []) (0 ∷ []))
 
 -- ---- parametric and variable
 
@@ -116,13 +118,13 @@ with_global = record (one_body (GlobalGet 0 ∷ Const32 1 ∷ Num 0x6A ∷ Globa
 }
 
 pub record ParametricExamples : Type 0 where
-  pub discard : Runs (one_body (Const32 1 ∷ Const32 2 ∷ Discard ∷ [])) (returns (I32 1 ∷ []) [])
-  pub select_first : Runs (one_body (Const32 7 ∷ Const32 8 ∷ Const32 9 ∷ Select ∷ [])) (returns (I32 7 ∷ []) [])
-  pub select_second : Runs (one_body (Const64 7 ∷ Const64 8 ∷ Const32 0 ∷ Select ∷ [])) (returns (I64 8 ∷ []) [])
-  pub select_reference : Runs (selecting_reference 3) (returns (I32 0 ∷ []) (1 ∷ []))
-  pub select_null : Runs (selecting_reference 0) (returns (I32 1 ∷ []) (0 ∷ []))
-  pub local : Runs with_local (returns (I32 10 ∷ []) [])
-  pub global : Runs with_global (returns (I32 5 ∷ []) [])
+  pub discard : RunOf (one_body (Const32 1 ∷ Const32 2 ∷ Discard ∷ [])) (returns (I32 1 ∷ []) [])
+  pub select_first : RunOf (one_body (Const32 7 ∷ Const32 8 ∷ Const32 9 ∷ Select ∷ [])) (returns (I32 7 ∷ []) [])
+  pub select_second : RunOf (one_body (Const64 7 ∷ Const64 8 ∷ Const32 0 ∷ Select ∷ [])) (returns (I64 8 ∷ []) [])
+  pub select_reference : RunOf (selecting_reference 3) (returns (I32 0 ∷ []) (1 ∷ []))
+  pub select_null : RunOf (selecting_reference 0) (returns (I32 1 ∷ []) (0 ∷ []))
+  pub local : RunOf with_local (returns (I32 10 ∷ []) [])
+  pub global : RunOf with_global (returns (I32 5 ∷ []) [])
 
 -- ---- control
 
@@ -179,26 +181,26 @@ calls_by_table index = record no_module {
 }
 
 pub record ControlExamples : Type 0 where
-  pub unreachable : Runs (one_body (Nop ∷ UnreachableInstr ∷ [])) (ends (Traps Unreachable) [])
+  pub unreachable : RunOf (one_body (Nop ∷ UnreachableInstr ∷ [])) (ends (Traps Unreachable) [])
   pub endless_loop : IsRun (one_function ((Loop Empty 1 ∷ []) ∷ (Br 0 ∷ []) ∷ [])) 0 [] [] 10 (ends Bound [])
-  pub block_with_params : Runs (with_blocks ((Const32 1 ∷ Block (Index 1) 1 ∷ Num 0x6B ∷ []) ∷ (Const32 2 ∷ []) ∷ [])) (returns (I32 (2 ^ 32 - 1) ∷ []) [])
-  pub branch_drops_the_others : Runs (one_function ((Block (One I32Type) 1 ∷ []) ∷ (Const32 1 ∷ Const32 2 ∷ Br 0 ∷ []) ∷ [])) (returns (I32 2 ∷ []) [])
-  pub branch_out_of_the_body : Runs (one_function ((Const32 1 ∷ Const32 2 ∷ Br 0 ∷ []) ∷ [])) (returns (I32 2 ∷ []) [])
+  pub block_with_params : RunOf (with_blocks ((Const32 1 ∷ Block (Index 1) 1 ∷ Num 0x6B ∷ []) ∷ (Const32 2 ∷ []) ∷ [])) (returns (I32 (2 ^ 32 - 1) ∷ []) [])
+  pub branch_drops_the_others : RunOf (one_function ((Block (One I32Type) 1 ∷ []) ∷ (Const32 1 ∷ Const32 2 ∷ Br 0 ∷ []) ∷ [])) (returns (I32 2 ∷ []) [])
+  pub branch_out_of_the_body : RunOf (one_function ((Const32 1 ∷ Const32 2 ∷ Br 0 ∷ []) ∷ [])) (returns (I32 2 ∷ []) [])
   pub loop_at_18_steps : IsRun counts_down 0 [] [] 18 (ends Bound (1 ∷ 1 ∷ []))
   pub loop_at_19_steps : IsRun counts_down 0 [] [] 19 (returns (I32 0 ∷ []) (1 ∷ 1 ∷ 0 ∷ []))
-  pub if_first : Runs (if_of 5) (returns (I32 10 ∷ []) (1 ∷ []))
-  pub if_other : Runs (if_of 0) (returns (I32 20 ∷ []) (0 ∷ []))
-  pub br_table_first : Runs (table_of_labels 0) (returns (I32 10 ∷ []) (0 ∷ []))
-  pub br_table_second : Runs (table_of_labels 1) (returns (I32 20 ∷ []) (1 ∷ 0 ∷ []))
-  pub br_table_at_its_end : Runs (table_of_labels 2) (returns (I32 30 ∷ []) (1 ∷ 1 ∷ []))
-  pub br_table_past_its_end : Runs (table_of_labels 7) (returns (I32 30 ∷ []) (1 ∷ 1 ∷ []))
+  pub if_first : RunOf (if_of 5) (returns (I32 10 ∷ []) (1 ∷ []))
+  pub if_other : RunOf (if_of 0) (returns (I32 20 ∷ []) (0 ∷ []))
+  pub br_table_first : RunOf (table_of_labels 0) (returns (I32 10 ∷ []) (0 ∷ []))
+  pub br_table_second : RunOf (table_of_labels 1) (returns (I32 20 ∷ []) (1 ∷ 0 ∷ []))
+  pub br_table_at_its_end : RunOf (table_of_labels 2) (returns (I32 30 ∷ []) (1 ∷ 1 ∷ []))
+  pub br_table_past_its_end : RunOf (table_of_labels 7) (returns (I32 30 ∷ []) (1 ∷ 1 ∷ []))
   pub call_at_five_steps : IsRun subtracts 0 [] [] 5 (ends Bound [])
   pub call_at_six_steps : IsRun subtracts 0 [] [] 6 (returns (I32 5 ∷ []) [])
   pub recursion : IsRun calls_itself 0 [] [] 9 (ends Bound [])
-  pub call_indirect : Runs (calls_by_table 0) (returns (I32 10 ∷ []) (0 ∷ 0 ∷ []))
-  pub call_indirect_null : Runs (calls_by_table 1) (ends (Traps Uninitialized) (0 ∷ 1 ∷ []))
-  pub call_indirect_mismatch : Runs (calls_by_table 2) (ends (Traps Mismatch) (0 ∷ 2 ∷ []))
-  pub call_indirect_past_the_end : Runs (calls_by_table 3) (ends (Traps Undefined) (1 ∷ []))
+  pub call_indirect : RunOf (calls_by_table 0) (returns (I32 10 ∷ []) (0 ∷ 0 ∷ []))
+  pub call_indirect_null : RunOf (calls_by_table 1) (ends (Traps Uninitialized) (0 ∷ 1 ∷ []))
+  pub call_indirect_mismatch : RunOf (calls_by_table 2) (ends (Traps Mismatch) (0 ∷ 2 ∷ []))
+  pub call_indirect_past_the_end : RunOf (calls_by_table 3) (ends (Traps Undefined) (1 ∷ []))
 
 -- a call that makes the frame 1,025 is too deep, and one that makes the frame 1,024 isn't: the next step is taken
 pub record FrameExamples : Type 0 where
@@ -307,16 +309,36 @@ starts last = record no_module {
   start = Some 1;
 }
 
+-- globals, and a function that gives one of them
+abbrev pub with_globals : List GlobalDef → ℕ → Module
+with_globals globals x = record no_module {
+  types = arrow [] (I32Type ∷ []) ∷ [];
+  funcs = function_of 0 ((GlobalGet x ∷ []) ∷ []) ∷ [];
+  globals = globals;
+}
+
+-- an i32 that isn't mutable, by these instructions
+abbrev pub fixed_by : List Instr → GlobalDef
+fixed_by code = record { ty = record { kind = I32Type; mutable = false }; init = record { seqs = code ∷ [] } }
+
 pub record InstantiationExamples : Type 0 where
-  pub element_at_the_end : Runs (active_element 1) (returns (I32 1 ∷ []) [])
-  pub element_past_the_end : Runs (active_element 2) (ends (Traps Table) [])
-  pub elements_first : Runs nothing_fits (ends (Traps Table) [])
-  pub then_data : Runs (record nothing_fits { elems = [] }) (ends (Traps Memory) [])
-  pub then_start : Runs (record nothing_fits { elems = []; segments = [] }) (ends (Traps Unreachable) [])
-  pub active_segment_is_dropped : Runs (record (active_element 1) { funcs = function_of 0 ((Const32 0 ∷ Const32 0 ∷ Const32 1 ∷ TableInit 0 0 ∷ []) ∷ []) ∷ [] }) (ends (Traps Table) (1 ∷ []))
+  pub global_by_one_before : RunOf (with_globals (fixed_by (Const32 40 ∷ []) ∷ fixed_by (GlobalGet 0 ∷ Const32 2 ∷ Num 0x6A ∷ []) ∷ []) 1) (returns (I32 42 ∷ []) [])
+  pub global_by_one_after : first_globals (with_globals (fixed_by (GlobalGet 1 ∷ []) ∷ fixed_by (Const32 1 ∷ []) ∷ []) 0) ≡ None
+  pub global_by_itself : first_globals (with_globals (fixed_by (GlobalGet 0 ∷ []) ∷ []) 0) ≡ None
+  pub product_wraps : offset_in [] (record { seqs = (Const32 65536 ∷ Const32 65536 ∷ Num 0x6C ∷ []) ∷ [] }) ≡ Some 0
+  pub difference_wraps : offset_in [] (record { seqs = (Const32 0 ∷ Const32 1 ∷ Num 0x6B ∷ []) ∷ [] }) ≡ Some (2 ^ 32 - 1)
+  pub wide_difference : value_of [] (record { seqs = (Const64 5 ∷ Const64 7 ∷ Const64 3 ∷ Num 0x7E ∷ Num 0x7D ∷ []) ∷ [] }) ≡ Some (I64Value (2 ^ 64 - 16))
+  pub operand_left_over : value_of [] (record { seqs = (Const32 1 ∷ Const32 2 ∷ []) ∷ [] }) ≡ None
+  pub operand_lacks : value_of [] (record { seqs = (Const32 1 ∷ Num 0x6A ∷ []) ∷ [] }) ≡ None
+  pub element_at_the_end : RunOf (active_element 1) (returns (I32 1 ∷ []) [])
+  pub element_past_the_end : RunOf (active_element 2) (ends (Traps Table) [])
+  pub elements_first : RunOf nothing_fits (ends (Traps Table) [])
+  pub then_data : RunOf (record nothing_fits { elems = [] }) (ends (Traps Memory) [])
+  pub then_start : RunOf (record nothing_fits { elems = []; segments = [] }) (ends (Traps Unreachable) [])
+  pub active_segment_is_dropped : RunOf (record (active_element 1) { funcs = function_of 0 ((Const32 0 ∷ Const32 0 ∷ Const32 1 ∷ TableInit 0 0 ∷ []) ∷ []) ∷ [] }) (ends (Traps Table) (1 ∷ []))
   pub start_before_export : IsRun (starts Nop) 0 [] [] 4 (returns (I32 9 ∷ []) [])
   pub units_of_both : IsRun (starts Nop) 0 [] [] 3 (ends Bound [])
-  pub start_traps : Runs (starts UnreachableInstr) (ends (Traps Unreachable) [])
+  pub start_traps : RunOf (starts UnreachableInstr) (ends (Traps Unreachable) [])
 
 -- ---- host functions
 

@@ -12,7 +12,7 @@ use Rattle.wasm_ast.specs.declared.modules.Group.{Group}
 use Rattle.wasm_ast.specs.declared.modules.Func.{Func}
 use Rattle.wasm_ast.specs.declared.modules.Module.{Module}
 use Rattle.wasm_rules.specs.Words.{Kind}
-use Rattle.wasm_check.specs.Checker.{same_type}
+use Rattle.wasm_check.specs.Operands.{same_type}
 use Rattle.wasm_check.specs.Contexts.{func_import}
 use Rattle.wasm_check.specs.Operators.{arrow}
 use Rattle.wasm_image.specs.declared.hosts.Host.{Host}

@@ -1,8 +1,10 @@
 -- Instantiation and invocation (Execution, Modules). A module is instantiated on numbers alone, and asks nothing.
-use Rattle.std.specs.Prelude.{ℕ, ◌+◌, ◌*◌, false, nat_lt, if◌then◌else◌, List, [], ◌∷◌, ◌++◌, length, map, flat_map, replicate, reverse, slice_get, slice_set, Option, Some, None, option_map, option_and_then, Result, Ok, Err}
+use Rattle.std.specs.Prelude.{ℕ, ◌+◌, ◌*◌, Bool, true, false, nat_lt, if◌then◌else◌, List, [], ◌∷◌, ◌++◌, length, map, flat_map, replicate, reverse, slice_get, slice_set, Option, Some, None, option_map, option_and_then, Result, Ok, Err}
+use Rattle.wasm_ast.specs.Opcodes.{is_from}
 use Rattle.wasm_ast.specs.declared.instructions.Instr.{Instr}
-use Rattle.wasm_ast.specs.declared.instructions.Instr.TheVariants.{Const32, Const64, RefNull, RefFunc, GlobalGet, Call}
+use Rattle.wasm_ast.specs.declared.instructions.Instr.TheVariants.{Const32, Const64, RefNull, RefFunc, GlobalGet, Num, Call}
 use Rattle.wasm_ast.specs.declared.instructions.Expr.{Expr}
+use Rattle.wasm_ast.specs.declared.modules.GlobalDef.{GlobalDef}
 use Rattle.wasm_ast.specs.declared.modules.Mode.{Mode}
 use Rattle.wasm_ast.specs.declared.modules.Mode.TheVariants.{Passive, Declared, Active}
 use Rattle.wasm_ast.specs.declared.modules.Elem.{Elem}
@@ -12,30 +14,54 @@ use Rattle.wasm_ast.specs.declared.runs.Cause.{Cause}
 use Rattle.wasm_ast.specs.declared.runs.Cause.TheVariants.{Memory, Table}
 use Rattle.wasm_ast.specs.declared.runs.Value.{Value as Argument}
 use Rattle.wasm_ast.specs.declared.runs.Value.TheVariants.{I32 as I32Argument, I64 as I64Argument, Func as FuncArgument, Extern as ExternArgument}
-use Rattle.wasm_rules.specs.Words.{Kind}
+use Rattle.wasm_rules.specs.Words.{Kind, numbers}
 use Rattle.wasm_reduction.specs.Configurations.{Reference, FuncRef, ExternRef, Value, I32, I64, Ref, Store, Frame, Config, End, Traps, Stuck}
-use Rattle.wasm_reduction.specs.Combinators.{word_of, reference_of, written}
+use Rattle.wasm_reduction.specs.Combinators.{valued, word_of, reference_of, written}
 use Rattle.wasm_reduction.specs.Tables.{null_of}
 use Rattle.wasm_reduction.specs.Memories.{page_bytes}
 use Rattle.wasm_reduction.specs.Images.{value_image, store_image, end_image}
 
--- ---- constant expressions: one instruction each
+-- ---- constant expressions: their instructions on an operand stack, with no units and no questions
 
-abbrev pub constant : List (Value ℕ) → Instr → Option (Value ℕ)
-constant globals (Const32 n) = Some (I32 n)
-constant globals (Const64 n) = Some (I64 n)
-constant globals (RefNull kind) = option_map Ref (null_of kind)
-constant globals (RefFunc x) = Some (Ref (FuncRef (Some x)))
-constant globals (GlobalGet x) = slice_get globals x
-constant globals _ = None
+-- add, sub or mul of the last two operands, which are i64 where wide, else i32
+abbrev pub combined : Bool → ℕ → List (Value ℕ) → Option (List (Value ℕ))
+combined wide op [] = None
+combined wide op (b ∷ []) = None
+combined wide op (b ∷ a ∷ vs) =
+    option_and_then (λ y. option_map (λ x. valued wide (numbers.binary op x y) ∷ vs) (word_of wide a)) (word_of wide b)
 
-abbrev pub only_instruction : List (List Instr) → Option Instr
-only_instruction ((i ∷ []) ∷ []) = Some i
-only_instruction _ = None
+-- i32.add, i32.sub, i32.mul; i64.add, i64.sub, i64.mul
+abbrev pub operated : ℕ → List (Value ℕ) → Option (List (Value ℕ))
+operated op vs =
+    if is_from 0x6A 0x6C op then combined false op vs else if is_from 0x7C 0x7E op then combined true op vs else None
+
+-- the operands after a constant instruction, where the globals have these values
+abbrev pub constant : List (Value ℕ) → Instr → List (Value ℕ) → Option (List (Value ℕ))
+constant globals (Const32 n) vs = Some (I32 n ∷ vs)
+constant globals (Const64 n) vs = Some (I64 n ∷ vs)
+constant globals (RefNull kind) vs = option_map (λ r. Ref r ∷ vs) (null_of kind)
+constant globals (RefFunc x) vs = Some (Ref (FuncRef (Some x)) ∷ vs)
+constant globals (GlobalGet x) vs = option_map (λ v. v ∷ vs) (slice_get globals x)
+constant globals (Num op) vs = operated op vs
+constant globals _ vs = None
+
+-- the operands after some of them
+abbrev pub evaluated : List (Value ℕ) → List Instr → List (Value ℕ) → Option (List (Value ℕ))
+evaluated globals [] vs = Some vs
+evaluated globals (i ∷ is) vs = option_and_then (evaluated globals is) (constant globals i vs)
+
+abbrev pub only_sequence : List (List Instr) → Option (List Instr)
+only_sequence (is ∷ []) = Some is
+only_sequence _ = None
+
+abbrev pub only_value : List (Value ℕ) → Option (Value ℕ)
+only_value (v ∷ []) = Some v
+only_value _ = None
 
 -- the value of a constant expression, where the globals have these values
 abbrev pub value_of : List (Value ℕ) → Expr → Option (Value ℕ)
-value_of globals e = option_and_then (constant globals) (only_instruction e.seqs)
+value_of globals e =
+    option_and_then (λ is. option_and_then only_value (evaluated globals is [])) (only_sequence e.seqs)
 
 abbrev pub reference_in : List (Value ℕ) → Expr → Option Reference
 reference_in globals e = option_and_then reference_of (value_of globals e)
@@ -50,9 +76,14 @@ abbrev pub all_of : {A : Type 0} → List (Option A) → Option (List A)
 all_of [] = Some []
 all_of (x ∷ xs) = option_and_then (λ y. option_map (λ ys. y ∷ ys) (all_of xs)) x
 
--- the globals, whose initial expressions name imported globals alone
+-- the globals in the order of their numbers, where those before them have these values: each may name those before it
+abbrev pub globals_after : List (Value ℕ) → List GlobalDef → Option (List (Value ℕ))
+globals_after done [] = Some done
+globals_after done (g ∷ gs) = option_and_then (λ v. globals_after (done ++ v ∷ []) gs) (value_of done g.init)
+
+-- those of a module that imports none
 abbrev pub first_globals : Module → Option (List (Value ℕ))
-first_globals m = all_of (map (λ g. value_of [] g.init) m.globals)
+first_globals m = globals_after [] m.globals
 
 -- the references of the element segments
 abbrev pub first_elems : Module → List (Value ℕ) → Option (List (List Reference))

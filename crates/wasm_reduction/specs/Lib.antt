@@ -13,8 +13,10 @@ pub mod Images
 pub mod Instantiation
 pub mod Runs
 pub mod RunImages
+pub mod Scripts
 pub mod Maps
 pub mod Widths
 pub mod Laws
 pub mod Examples
+pub mod ScriptExamples
 pub mod Outermost

@@ -2,13 +2,10 @@
 -- step keeps them, whatever the types of the module's instructions.
 use Rattle.std.specs.Prelude.{◌≡◌, ℕ, ◌*◌, ◌^◌, ◌<◌, ◌≤◌, List, All, length}
 use Rattle.std.specs.List.{AllByRecursion}
+use Rattle.wasm_ast.specs.Ranges.{IsInRange, ValueInRange}
 use Rattle.wasm_ast.specs.Shape.{HasShape}
-use Rattle.wasm_ast.specs.declared.instructions.Instr.{Instr}
-use Rattle.wasm_ast.specs.declared.instructions.Instr.TheVariants.{Load, Store as StoreInstr, Const32, Const64}
-use Rattle.wasm_ast.specs.declared.instructions.Expr.{Expr}
 use Rattle.wasm_ast.specs.declared.modules.Module.{Module}
 use Rattle.wasm_ast.specs.declared.runs.Value.{Value as Argument}
-use Rattle.wasm_ast.specs.declared.runs.Value.TheVariants.{I32 as I32Argument, I64 as I64Argument}
 use Rattle.wasm_image.specs.Sizes.{most_pages, most_elements}
 use Rattle.wasm_reduction.specs.Configurations.{Store, Label, Frame, Config, End, Returns, Next, Goes, Draws, Asks, Ends}
 use Rattle.wasm_reduction.specs.Memories.{page_bytes}
@@ -16,28 +13,14 @@ use Rattle.wasm_reduction.specs.Maps.{ValuesHave, InRange}
 
 -- ---- modules
 
--- What the types of an instruction's parts say of the numbers that a run computes with.
-abbrev pub NumbersFit : Instr → Type 0
-NumbersFit (Load op align offset) = offset < 2 ^ 32
-NumbersFit (StoreInstr op align offset) = offset < 2 ^ 32
-NumbersFit (Const32 n) = n < 2 ^ 32
-NumbersFit (Const64 n) = n < 2 ^ 64
-NumbersFit _ = Unit {0}
-
-abbrev pub ExprFits : Expr → Type 0
-ExprFits e = All (λ instrs. All NumbersFit instrs) e.seqs
-
 -- A module of the shape that modules have, and what the types of its parts say: of a module as plain data it has to be said.
 pub record HasNumbers (m : Module) : Type 0 where
   pub shape : HasShape m
-  pub funcs : All (λ f. ExprFits f.body) m.funcs
-  pub globals : All (λ g. ExprFits g.init) m.globals
-  pub segments : All (λ s. All (λ b. b < 2 ^ 8) s.bytes) m.segments
+  pub range : IsInRange m
 
+-- an argument, and what its type says
 abbrev pub ArgumentFits : Argument → Type 0
-ArgumentFits (I32Argument n) = n < 2 ^ 32
-ArgumentFits (I64Argument n) = n < 2 ^ 64
-ArgumentFits _ = Unit {0}
+ArgumentFits a = ValueInRange a
 
 -- ---- configurations
 

@@ -6,7 +6,7 @@ ghost use Rattle.wasm_ast.specs.declared.types.FuncType.{FuncType};
 ghost use Rattle.wasm_ast.specs.declared.modules.Func.{Func};
 ghost use Rattle.wasm_ast.specs.declared.modules.Module.{Module};
 ghost use Rattle.wasm_ast.specs.declared.runs.Value.{Value};
-ghost use Rattle.wasm_rules.specs.Words.{Gives, bits_where, numbers, taken};
+ghost use Rattle.wasm_rules.specs.Words.{Gives, bits_where, numbers, blanks, taken};
 ghost use Rattle.wasm_check.specs.Contexts.{block_type as context_block_type, context_of};
 ghost use Rattle.wasm_check.specs.Modules.{IsValid};
 ghost use Rattle.wasm_image.specs.declared.hosts.Host.{Host};
@@ -17,14 +17,14 @@ ghost use Rattle.wasm_reduction.specs.Configurations.{Config, Question};
 ghost use Rattle.wasm_reduction.specs.Functions.{functions, type_of, block_type};
 ghost use Rattle.wasm_reduction.specs.Instantiation.{first_config};
 ghost use Rattle.wasm_reduction.specs.Steps.{step, answered, with_symbol};
-ghost use Rattle.wasm_reduction.specs.Images.{config_image, next_image};
+ghost use Rattle.wasm_reduction.specs.Images.{config_image, next_image, blank};
 ghost use Rattle.wasm_reduction.specs.Maps.{IsWide, KeepsOperations};
 ghost use Rattle.wasm_reduction.specs.Widths.{HasNumbers, ArgumentFits, HasWidths, NextHasWidths};
 ghost use Rattle.wasm_reduction.specs.Runs.{Trace, Going, Stands, Turned, Over, by_list, follows, runs, Run, runs_at, IsRun};
 ghost use Rattle.wasm_reduction.specs.RunImages.{going_image, turned_image, trace_of, IsAnswered, BeginsWith, AsksNext, KeepsSymbols};
 ghost use Rattle.wasm_reduction.specs.Laws.{RunsHost, RunsCode, ComesToAnEnd};
 
-use wasm_rules::Algebra;
+use wasm_rules::Words;
 
 /// The functions of a module by their indices are those that images and validation count: the imported ones, of which each
 /// that is a host function runs it, and then those with code. Each has the type that an image gives it. What a block takes
@@ -48,35 +48,40 @@ pub fn bounded_runs_ask_little()
     ensures { (m : Module) (entry : ℕ) (args : List Value) (input : List ℕ) (steps : ℕ) (run : Run) → HasShape m → 1 ≤ steps → IsRun m entry args input steps run → length run.answers ≤ 2 ^ 32 * steps }
 {}
 
-/// A step commutes with each map from the words of an algebra to numbers that keeps the operations, as that to their values
-/// at an input: a step of a configuration whose words have their widths, under the map, is the step of its image.
-pub fn steps_keep_values<A: Algebra>()
-    ensures { Gives A.kind A.Has → (h : A.Means → ℕ) → KeepsOperations A.Has A.kind numbers h → (m : Module) (c : Config A.Means) → IsWide A.Has c → step numbers m (config_image h c) ≡ next_image h (step A.kind m c) }
+/// A step commutes with each map from one kind of words to another that keeps the operations: a step of a configuration whose
+/// words have their widths, under the map, is the step of its image. So with the map from terms to their values at an input.
+pub fn steps_keep_maps<V: Words, W: Words>()
+    ensures { (given : V.Given) → Gives V.kind (V.Has given) → (h : V.Means → W.Means) → KeepsOperations (V.Has given) V.kind W.kind h → (m : Module) (c : Config V.Means) → IsWide (V.Has given) c → step W.kind m (config_image h c) ≡ next_image h (step V.kind m c) }
+{}
+
+/// The map to words that mean nothing keeps the operations, from any kind of words.
+pub fn words_can_be_forgotten<V: Words>()
+    ensures { (given : V.Given) → KeepsOperations (V.Has given) V.kind blanks blank }
 {}
 
 /// Each step keeps the widths of all words: of a configuration that has them, with sizes within bounds, each step asks about a
 /// word of 32 bits, ends with words of their widths, or leads to such a configuration; so do an answer and a symbol of its
 /// width. Such a configuration's words have the widths that a step computes with. That of a valid and ready module at the
 /// start of a run is one. No step needs a valid module for this.
-pub fn steps_keep_widths<A: Algebra>()
-    ensures steps { Gives A.kind A.Has → (m : Module) (c : Config A.Means) → HasNumbers m → HasWidths A.Has c → NextHasWidths A.Has (step A.kind m c) }
-    ensures answers { (c : Config A.Means) (n : ℕ) → HasWidths A.Has c → HasWidths A.Has (answered c n) }
-    ensures symbols { (c : Config A.Means) (wide : Bool) (w : A.Means) → HasWidths A.Has c → A.Has (bits_where wide) w → HasWidths A.Has (with_symbol c wide w) }
-    ensures wide { (c : Config A.Means) → HasWidths A.Has c → IsWide A.Has c }
-    ensures first { Gives A.kind A.Has → (m : Module) (entry : ℕ) (args : List Value) (c : Config A.Means) → HasNumbers m → IsValid m → IsReady m → All ArgumentFits args → first_config A.kind m entry args ≡ Ok c → HasWidths A.Has c }
+pub fn steps_keep_widths<W: Words>()
+    ensures steps { (given : W.Given) → Gives W.kind (W.Has given) → (m : Module) (c : Config W.Means) → HasNumbers m → HasWidths (W.Has given) c → NextHasWidths (W.Has given) (step W.kind m c) }
+    ensures answers { (given : W.Given) (c : Config W.Means) (n : ℕ) → HasWidths (W.Has given) c → HasWidths (W.Has given) (answered c n) }
+    ensures symbols { (given : W.Given) (c : Config W.Means) (wide : Bool) (w : W.Means) → HasWidths (W.Has given) c → W.Has given (bits_where wide) w → HasWidths (W.Has given) (with_symbol c wide w) }
+    ensures wide { (given : W.Given) (c : Config W.Means) → HasWidths (W.Has given) c → IsWide (W.Has given) c }
+    ensures first { (given : W.Given) → Gives W.kind (W.Has given) → (m : Module) (entry : ℕ) (args : List Value) (c : Config W.Means) → HasNumbers m → IsValid m → IsReady m → All ArgumentFits args → first_config W.kind m entry args ≡ Ok c → HasWidths (W.Has given) c }
 {}
 
-/// A run commutes with each map from the words of an algebra to numbers that keeps the operations, for so many turns and any
-/// list of answers: under the map, a run over the algebra's words is the run over numbers with the same answers, whose symbols
-/// are the numbers that the map makes of the words of symbols. Where one stands at a question, so does the other.
-pub fn runs_keep_values<A: Algebra>()
-    ensures turns { Gives A.kind A.Has → (h : A.Means → ℕ) → KeepsOperations A.Has A.kind numbers h → (draw : ℕ → Bool → A.Means) (drawn : ℕ → Bool → ℕ) → KeepsSymbols A.Has h draw drawn → (answers : List ℕ) (m : Module) (steps n : ℕ) (g : Going A.Means) → HasNumbers m → HasWidths A.Has g.config → follows numbers drawn (by_list answers) m steps n (going_image h g) ≡ turned_image h (follows A.kind draw (by_list answers) m steps n g) }
-    ensures runs { Gives A.kind A.Has → (h : A.Means → ℕ) → KeepsOperations A.Has A.kind numbers h → (draw : ℕ → Bool → A.Means) (drawn : ℕ → Bool → ℕ) → KeepsSymbols A.Has h draw drawn → (answers : List ℕ) (m : Module) (entry : ℕ) (args : List Value) (steps n : ℕ) → HasNumbers m → IsValid m → IsReady m → All ArgumentFits args → runs numbers drawn (by_list answers) m entry args steps n ≡ turned_image h (runs A.kind draw (by_list answers) m entry args steps n) }
+/// A run commutes with each map from one kind of words to another that keeps the operations, for so many turns and any list of
+/// answers: under the map, a run over the one kind is the run over the other with the same answers, whose symbols are the words
+/// that the map makes of the words of symbols. Where one stands at a question, so does the other.
+pub fn runs_keep_maps<V: Words, W: Words>()
+    ensures turns { (given : V.Given) → Gives V.kind (V.Has given) → (h : V.Means → W.Means) → KeepsOperations (V.Has given) V.kind W.kind h → (draw : ℕ → Bool → V.Means) (drawn : ℕ → Bool → W.Means) → KeepsSymbols (V.Has given) h draw drawn → (answers : List ℕ) (m : Module) (steps n : ℕ) (g : Going V.Means) → HasNumbers m → HasWidths (V.Has given) g.config → follows W.kind drawn (by_list answers) m steps n (going_image h g) ≡ turned_image h (follows V.kind draw (by_list answers) m steps n g) }
+    ensures runs { (given : V.Given) → Gives V.kind (V.Has given) → (h : V.Means → W.Means) → KeepsOperations (V.Has given) V.kind W.kind h → (draw : ℕ → Bool → V.Means) (drawn : ℕ → Bool → W.Means) → KeepsSymbols (V.Has given) h draw drawn → (answers : List ℕ) (m : Module) (entry : ℕ) (args : List Value) (steps n : ℕ) → HasNumbers m → IsValid m → IsReady m → All ArgumentFits args → runs W.kind drawn (by_list answers) m entry args steps n ≡ turned_image h (runs V.kind draw (by_list answers) m entry args steps n) }
 {}
 
 /// While a run that is answered by a list doesn't stand at a question, more answers after those of the list change nothing.
-pub fn longer_lists_agree<A: Algebra>()
-    ensures { (draw : ℕ → Bool → A.Means) (m : Module) (entry : ℕ) (args : List Value) (steps n : ℕ) (answers more : List ℕ) (x : Turned A.Means) → IsAnswered x → runs A.kind draw (by_list answers) m entry args steps n ≡ x → runs A.kind draw (by_list (answers ++ more)) m entry args steps n ≡ x }
+pub fn longer_lists_agree<W: Words>()
+    ensures { (draw : ℕ → Bool → W.Means) (m : Module) (entry : ℕ) (args : List Value) (steps n : ℕ) (answers more : List ℕ) (x : Turned W.Means) → IsAnswered x → runs W.kind draw (by_list answers) m entry args steps n ≡ x → runs W.kind draw (by_list (answers ++ more)) m entry args steps n ≡ x }
 {}
 
 /// A bounded run is the run that is answered by the list of its answers: after so many turns it is where the run is that is

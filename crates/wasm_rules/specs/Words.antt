@@ -36,6 +36,18 @@ numbers = record {
   symbol = λ k wide. 0;
 }
 
+-- the kind of words that mean nothing
+abbrev pub blanks : Kind (Unit {0})
+blanks = record {
+  number = λ n. tt;
+  unary = λ op a. tt;
+  binary = λ op a b. tt;
+  choose = λ wide condition first second. tt;
+  byte = λ a i. tt;
+  join = λ wide bytes. tt;
+  symbol = λ k wide. tt;
+}
+
 -- ---- widths
 
 -- a number has each width whose power of 2 it is below

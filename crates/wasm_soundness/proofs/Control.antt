@@ -16,7 +16,7 @@ use Rattle.wasm_ast.specs.declared.modules.Module.{Module}
 use Rattle.wasm_rules.specs.Words.{Kind}
 use Rattle.wasm_check.specs.declared.operands.Operand.{Operand}
 use Rattle.wasm_check.specs.declared.operands.Operand.TheVariants.{Of}
-use Rattle.wasm_check.specs.Checker.{same_type}
+use Rattle.wasm_check.specs.Operands.{same_type}
 use Rattle.wasm_check.specs.Contexts.{Context, context_of, locals_of, block_type as context_block_type}
 use Rattle.wasm_check.specs.Instructions.{Labels, EachTakes, IsTyped}
 use Rattle.wasm_check.specs.Modules.{BodyIsValid}

@@ -6,6 +6,7 @@ pub mod Inversions
 pub mod Control
 pub mod Steps
 pub mod Configs
+pub mod Constants
 pub mod Starts
 pub mod Runs
 pub mod Examples

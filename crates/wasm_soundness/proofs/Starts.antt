@@ -1,20 +1,18 @@
 -- A run of a valid module that is ready begins with a configuration that fits.
-use Rattle.std.proofs.Common.{◌≡◌, ℕ, suc, ◌+◌, ◌<◌, List, [], ◌∷◌, ◌++◌, map, length, reverse, refl, sym, ap, ◌∙◌, subst, inl, inr, arith, append-nil}
+use Rattle.std.proofs.Common.{◌≡◌, ℕ, suc, ◌+◌, List, [], ◌∷◌, ◌++◌, map, length, reverse, take, refl, sym, ap, ◌∙◌, subst, inl, inr, arith, append-nil}
 use Rattle.std.specs.Prelude.{All, Bool, true, false, nat_lt, if◌then◌else◌, Option, Some, None, option_map, option_and_then, slice_get, slice_set, replicate, Ok, Err}
 use Rattle.std.specs.List.{AllByRecursion}
 use Rattle.std.proofs.lemmas.List.{length-map, length-set}
 use Rattle.std.proofs.lemmas.List.Elements.{All-head, All-tail}
 use Rattle.std.proofs.lemmas.Option.{slice_get_within}
-use Rattle.wasm_ast.specs.Shape.{InstrHasShape, IsReference, SeqHasShape, ExprHasShape, ModeHasShape, ElemHasShape, SegmentHasShape, HasShape}
+use Rattle.wasm_ast.specs.Shape.{IsReference, ExprHasShape, ModeHasShape, ElemHasShape, SegmentHasShape, HasShape}
 use Rattle.wasm_ast.specs.declared.types.ValType.{ValType}
 use Rattle.wasm_ast.specs.declared.types.ValType.TheVariants.{I32 as I32Type, I64 as I64Type, FuncRef as FuncRefType, ExternRef as ExternRefType}
 use Rattle.wasm_ast.specs.declared.types.FuncType.{FuncType}
 use Rattle.wasm_ast.specs.declared.types.TableType.{TableType}
 use Rattle.wasm_ast.specs.declared.types.GlobalType.{GlobalType}
-use Rattle.wasm_ast.specs.declared.instructions.Instr.{Instr}
-use Rattle.wasm_ast.specs.declared.instructions.Instr.TheVariants.{Const32, Const64, RefNull, RefFunc, GlobalGet, Call}
+use Rattle.wasm_ast.specs.declared.instructions.Instr.TheVariants.{Call}
 use Rattle.wasm_ast.specs.declared.instructions.Expr.{Expr}
-use Rattle.wasm_ast.specs.declared.modules.GlobalDef.{GlobalDef}
 use Rattle.wasm_ast.specs.declared.modules.Mode.{Mode}
 use Rattle.wasm_ast.specs.declared.modules.Mode.TheVariants.{Passive, Declared, Active}
 use Rattle.wasm_ast.specs.declared.modules.Elem.{Elem}
@@ -28,25 +26,25 @@ use Rattle.wasm_rules.specs.Words.{Kind}
 use Rattle.wasm_check.specs.declared.operands.Operand.{Operand}
 use Rattle.wasm_check.specs.declared.operands.Operand.TheVariants.{Of}
 use Rattle.wasm_check.specs.declared.sections.Section.TheVariants.{Globals, Start, Elements, Data}
-use Rattle.wasm_check.specs.Constants.{Gives, IsConstant}
-use Rattle.wasm_check.specs.Contexts.{funcs_of, tables_of, globals_of, imported_globals}
-use Rattle.wasm_check.specs.Modules.{GlobalIsValid, StartIsValid, IsOffset, ElemModeIsValid, ElemIsValid, DataModeIsValid, IsValid}
+use Rattle.wasm_check.specs.Constants.{IsConstant}
+use Rattle.wasm_check.specs.Contexts.{funcs_of, tables_of, globals_of}
+use Rattle.wasm_check.specs.Modules.{StartIsValid, IsOffset, ElemModeIsValid, ElemIsValid, DataModeIsValid, IsValid}
 use Rattle.wasm_check.specs.Operands.{operands}
 use Rattle.wasm_check.specs.Operators.{arrow}
 use Rattle.wasm_image.specs.Entries.{type_of}
 use Rattle.wasm_image.specs.Functions.{function_type}
-use Rattle.wasm_reduction.specs.Configurations.{Reference, FuncRef, Value, I32, I64, Ref, Store, End, Returns, Traps, Fails, Assumes, Stuck}
-use Rattle.wasm_reduction.specs.Functions.{functions}
+use Rattle.wasm_reduction.specs.Configurations.{Reference, Value, I32, I64, Ref, Store, End, Returns, Traps, Fails, Assumes, Stuck}
 use Rattle.wasm_reduction.specs.Combinators.{written, word_of, reference_of}
 use Rattle.wasm_reduction.specs.Tables.{null_of}
 use Rattle.wasm_reduction.specs.Images.{value_image, values_image, end_image}
-use Rattle.wasm_reduction.specs.Instantiation.{constant, only_instruction, value_of, reference_in, offset_in, all_of, first_globals, first_elems, first_tables, first_memory, allocated, allocated_with, Instantiated, with_part, in_range, after, drop_elem, drop_data, start_elem, start_data, start_elems, start_datas, instantiated, argument, start_call, invoked, first_config}
-use Rattle.wasm_reduction.proofs.ImageFunctions.{get-map, map-both, function-types}
+use Rattle.wasm_reduction.specs.Instantiation.{reference_in, offset_in, all_of, first_globals, first_elems, first_tables, first_memory, allocated, allocated_with, Instantiated, with_part, in_range, after, drop_elem, drop_data, start_elem, start_data, start_elems, start_datas, instantiated, argument, start_call, invoked, first_config}
+use Rattle.wasm_reduction.proofs.ImageFunctions.{get-map}
 use Rattle.wasm_reduction.proofs.WideParts.{each-of}
 use Rattle.wasm_soundness.specs.Values.{ReferenceIs, ValueIs, OperandIs, Hold, ofs}
 use Rattle.wasm_soundness.specs.Configurations.{AreReferences, StoreFits, AreTypedCalls, IsTrap, StartFits}
 use Rattle.wasm_soundness.specs.Laws.{CanBeRun, NamesFunction, Fit}
-use Rattle.wasm_soundness.proofs.Holding.{get-within, hold-get, hold-reverse, references-get, references-set, each-replicate}
+use Rattle.wasm_soundness.proofs.Constants.{functions-count, value-there, globals-there}
+use Rattle.wasm_soundness.proofs.Holding.{get-within, hold-reverse, references-get, references-set, each-replicate}
 use Rattle.wasm_soundness.proofs.Modules.{ModuleFits, module-fits, entries}
 use Rattle.wasm_soundness.proofs.Steps.{null-is, each-written}
 
@@ -55,38 +53,7 @@ use Rattle.wasm_soundness.proofs.Steps.{null-is, each-written}
 all-cons : {A : Type 0} (o : Option A) (os : Option (List A)) (y : A) (ys : List A) → o ≡ Some y → os ≡ Some ys → option_and_then (λ y. option_map (λ ys. y ∷ ys) os) o ≡ Some (y ∷ ys)
 all-cons o os y ys e f = ap (λ o. option_and_then (λ y. option_map (λ ys. y ∷ ys) os) o) e ∙ ap (λ os. option_map (λ ys. y ∷ ys) os) f
 
-functions-count : (m : Module) → length (funcs_of m) ≡ length (functions m)
-functions-count m = ap length (sym (function-types m)) ∙ length-map (functions m) (λ f. f.ty)
-
--- ---- constant expressions
-
-one-shape : (instr : Instr) (seqs : List (List Instr)) → seqs ≡ (instr ∷ []) ∷ [] → All SeqHasShape seqs → InstrHasShape instr
-one-shape instr seqs e h =
-    let first : SeqHasShape (instr ∷ []) = All-head SeqHasShape (instr ∷ []) [] (subst (All SeqHasShape) e h) in
-    All-head InstrHasShape instr [] first.each
-
-abbrev Valued : Module → List (Value ℕ) → Instr → ValType → Type 0
-Valued m globals i kind = (v : Value ℕ) × (constant globals i ≡ Some v) × ValueIs m v kind
-
-constant-there : (m : Module) (types : List GlobalType) (globals : List (Value ℕ)) → Hold m globals (ofs (map (λ t. t.kind) types)) → (i : Instr) (kind : ValType) → InstrHasShape i → Gives (length (funcs_of m)) types i kind → Valued m globals i kind
-constant-there m types globals h (Const32 n) kind s g = (I32 n, refl, subst (ValueIs m (I32 n)) (sym g) tt)
-constant-there m types globals h (Const64 n) kind s g = (I64 n, refl, subst (ValueIs m (I64 n)) (sym g) tt)
-constant-there m types globals h (RefNull null) kind s g =
-    let r = null-is m null s in
-    (Ref r.0, ap (option_map (λ r. Ref r)) r.1, subst (λ kind. ReferenceIs m kind r.0) (sym g) r.2)
-constant-there m types globals h (RefFunc x) kind s g =
-    let l : x < length (functions m) = let e = functions-count m in omega (arith, g.1, e) in
-    (Ref (FuncRef (Some x)), refl, subst (λ kind. ReferenceIs m kind (FuncRef (Some x))) (sym g.0) l)
-constant-there m types globals h (GlobalGet x) kind s g =
-    let v = hold-get m globals (map (λ t. t.kind) types) x g.0.kind h (get-map (λ t. t.kind) types x ∙ ap (option_map (λ t. t.kind)) g.1) in
-    (v.0, v.1, subst (ValueIs m v.0) g.2 v.2)
-constant-there m types globals h _ kind s g = absurd g
-
-value-there : (m : Module) (types : List GlobalType) (globals : List (Value ℕ)) → Hold m globals (ofs (map (λ t. t.kind) types)) → (e : Expr) (kind : ValType) → ExprHasShape e → IsConstant (length (funcs_of m)) types e kind →
-    (v : Value ℕ) × (value_of globals e ≡ Some v) × ValueIs m v kind
-value-there m types globals h e kind s is =
-    let v = constant-there m types globals h is.instr kind (one-shape is.instr e.seqs is.alone s.each) is.gives in
-    (v.0, ap (λ seqs. option_and_then (constant globals) (only_instruction seqs)) is.alone ∙ v.1, v.2)
+-- ---- values of constant expressions
 
 reference-value : (m : Module) (v : Value ℕ) (kind : ValType) → IsReference kind → ValueIs m v kind → (r : Reference) × (reference_of v ≡ Some r) × ReferenceIs m kind r
 reference-value m (Ref r) kind is h = (r, refl, h)
@@ -99,14 +66,6 @@ number-value m (I64 n) h = absurd h
 number-value m (Ref r) h = absurd h
 
 -- ---- allocation
-
-globals-there : (m : Module) (gs : List GlobalDef) → imported_globals m ≡ [] → AllByRecursion (GlobalIsValid m) gs → AllByRecursion (λ g. ExprHasShape g.init) gs →
-    (vs : List (Value ℕ)) × (all_of (map (λ g. value_of [] g.init) gs) ≡ Some vs) × Hold m vs (ofs (map (λ g. g.ty.kind) gs))
-globals-there m [] none h s = ([], refl, tt)
-globals-there m (g ∷ gs) none h s =
-    let v = value-there m [] [] tt g.init g.ty.kind s.0 (subst (λ types. IsConstant (length (funcs_of m)) types g.init g.ty.kind) none h.0) in
-    let rest = globals-there m gs none h.1 s.1 in
-    (v.0 ∷ rest.0, all-cons _ _ v.0 rest.0 v.1 rest.1, (v.2, rest.2))
 
 module _ (m : Module) (types : List GlobalType) (globals : List (Value ℕ)) (have : Hold m globals (ofs (map (λ t. t.kind) types))) where
   items-there : (kind : ValType) → IsReference kind → (items : List Expr) → AllByRecursion (λ item. IsConstant (length (funcs_of m)) types item kind) items → AllByRecursion ExprHasShape items →
@@ -223,9 +182,10 @@ module _ (m : Module) (fits : ModuleFits m) where
 
   store-there : HasShape m → IsValid m → (s : Store ℕ) × (allocated m ≡ Some s) × StoreFits m s
   store-there shape valid =
-      let g = globals-there m m.globals fits.no_globals (entries (GlobalIsValid m) m.globals (λ k g e. valid Globals k g e)) (each-of (λ g. ExprHasShape g.init) m.globals shape.globals) in
-      let kinds : map (λ t. t.kind) (globals_of m) ≡ map (λ g. g.ty.kind) m.globals = ap (map (λ t. t.kind)) fits.globals ∙ map-both (λ t. t.kind) m.globals (λ g. g.ty) in
-      let have : Hold m g.0 (ofs (map (λ t. t.kind) (globals_of m))) = subst (λ ts. Hold m g.0 (ofs ts)) (sym kinds) g.2 in
+      let g = globals-there m [] [] m.globals tt
+      (λ j x e. subst (λ imported. IsConstant (length (funcs_of m)) (take (length imported + j) (imported ++ map (λ g. g.ty) m.globals)) x.init x.ty.kind) fits.no_globals (valid Globals j x e))
+      (each-of (λ g. ExprHasShape g.init) m.globals shape.globals) in
+      let have : Hold m g.0 (ofs (map (λ t. t.kind) (globals_of m))) = subst (λ ts. Hold m g.0 (ofs (map (λ t. t.kind) ts))) (sym fits.globals) g.2 in
       let el = elems-there m (globals_of m) g.0 have m.elems (entries (ItemsAre m (globals_of m) g.0 have) m.elems (λ k e is. (valid Elements k e is).items)) (each-of ElemHasShape m.elems shape.elems) in
       let t = tables-there m m.tables fits.table_kinds in (
         store_of m g.0 t.0 el.0,

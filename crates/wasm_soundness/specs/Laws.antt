@@ -9,6 +9,7 @@ use Rattle.wasm_image.specs.Entries.{AreArguments}
 use Rattle.wasm_image.specs.Functions.{function_count}
 use Rattle.wasm_image.specs.Ready.{IsReady}
 use Rattle.wasm_reduction.specs.Runs.{Run, IsRun}
+use Rattle.wasm_reduction.specs.Scripts.{Script, IsScript}
 
 -- a well-formed, valid module that is ready to be run
 pub record CanBeRun (m : Module) : Type 0 where
@@ -31,3 +32,9 @@ pub record HasOneRun (m : Module) (entry : ℕ) (args : List Value) (input : Lis
   pub run : Run
   pub is_run : IsRun m entry args input steps run
   pub only : (other : Run) → IsRun m entry args input steps other → other ≡ run
+
+-- there is one script of the bounded run
+pub record HasOneScript (m : Module) (entry : ℕ) (args : List Value) (input : List ℕ) (steps : ℕ) : Type 0 where
+  pub script : Script
+  pub is_script : IsScript m entry args input steps script
+  pub only : (other : Script) → IsScript m entry args input steps other → other ≡ script

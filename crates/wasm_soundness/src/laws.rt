@@ -10,7 +10,7 @@ ghost use Rattle.wasm_reduction.specs.Steps.{step, answered};
 ghost use Rattle.wasm_reduction.specs.Instantiation.{first_config};
 ghost use Rattle.wasm_reduction.specs.Runs.{Trace, Ended, Over, Reply, runs, Run, IsRun};
 ghost use Rattle.wasm_soundness.specs.Configurations.{ConfigFits, NextFits, StartFits};
-ghost use Rattle.wasm_soundness.specs.Laws.{CanBeRun, Fit, HasOneRun};
+ghost use Rattle.wasm_soundness.specs.Laws.{CanBeRun, Fit, HasOneRun, HasOneScript};
 ghost use Rattle.wasm_soundness.specs.Examples.{sum_module};
 
 use wasm_rules::Algebra;
@@ -33,10 +33,11 @@ pub fn runs_are_never_stuck<A: Algebra>()
 {}
 
 /// A valid and ready module has exactly one bounded run for each function, arguments that fit it, input and bound on steps.
-/// Where it returns, its values have the types of the function's results.
+/// Where it returns, its values have the types of the function's results. So it has exactly one script, too.
 pub fn bounded_runs_are_one()
     ensures one { (m : Module) (entry : ℕ) (args : List Value) (input : List ℕ) (steps : ℕ) → CanBeRun m → Fit m entry args → HasOneRun m entry args input steps }
     ensures types { (m : Module) (entry : ℕ) (args : List Value) (input : List ℕ) (steps : ℕ) (run : Run) (values : List Value) → CanBeRun m → (h : Fit m entry args) → IsRun m entry args input steps run → run.outcome ≡ Returns values → map type_of values ≡ h.types.type.results }
+    ensures script { (m : Module) (entry : ℕ) (args : List Value) (input : List ℕ) (steps : ℕ) → CanBeRun m → Fit m entry args → HasOneScript m entry args input steps }
 {}
 
 /// The laws speak of something: this module can be run, and its function takes no arguments.

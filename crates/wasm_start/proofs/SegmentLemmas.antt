@@ -13,11 +13,12 @@ use Rattle.wasm_image.specs.Sizes.{AreAtMost, most_pages}
 use Rattle.wasm_reduction.specs.Combinators.{written}
 use Rattle.wasm_reduction.specs.Configurations.{Reference, Store, End, Traps, Stuck}
 use Rattle.wasm_reduction.specs.Images.{value_image, values_image}
-use Rattle.wasm_reduction.specs.Instantiation.{Instantiated, offset_in, with_part, in_range, drop_elem, drop_data, first_memory, allocated, after, start_elem, start_elems, start_data, start_datas, instantiated}
+use Rattle.wasm_reduction.specs.Instantiation.{argument, Instantiated, offset_in, with_part, in_range, drop_elem, drop_data, first_memory, allocated, after, start_elem, start_elems, start_data, start_datas, instantiated}
 use Rattle.wasm_machine.specs.declared.values.Reference.{Reference as CodeReference}
+use Rattle.wasm_ast.specs.declared.runs.Value.{Value as Argument}
 use Rattle.wasm_machine.specs.declared.values.Value.{Value as CodeValue}
 use Rattle.wasm_machine.specs.Configurations.{datas_of}
-use Rattle.wasm_start.specs.code.Starts.{plain, PlainStore, store_with, AreByteValues, FromBytes}
+use Rattle.wasm_start.specs.code.Starts.{PlainStore, store_with, AreByteValues, FromBytes}
 use Rattle.wasm_machine.specs.Values.{reference, value, ValueHeld, ValuesHeld}
 use Rattle.wasm_machine.proofs.Lists.{all-append, all-take, all-drop}
 use Rattle.wasm_start.proofs.StartLemmas.{datas_dropped, ElemsSoFar, next_elem, DatasSoFar, next_data, WordsSoFar, values_kept, get_map, set_map, written_map, long_map, append_map, PagesSoFar, pages_more}
@@ -31,7 +32,7 @@ elem_at s k x o t e =
     (Ok (drop_elem k (record s { tables = slice_set s.tables x (written place references elements) }))))))
 
 module _ (m : Module) (b : List ℕ) (p : PlainStore) (k x place : ℕ) (offset : Expr) (references table : List CodeReference)
-    (at : offset_in (map plain p.globals) offset ≡ Some place) (there : slice_get p.tables x ≡ Some table) (held : slice_get p.elems k ≡ Some references) where
+    (at : offset_in (map argument p.globals) offset ≡ Some place) (there : slice_get p.tables x ≡ Some table) (held : slice_get p.elems k ≡ Some references) where
   elem_reaches : start_elem k (Active x offset) (store_with m b p) ≡
       in_range (place + length (map reference references)) (length (map reference table)) TableCause
       (Ok (drop_elem k (record (store_with m b p) { tables = slice_set (map (λ t. map reference t) p.tables) x (written place (map reference references) (map reference table)) })))
@@ -66,7 +67,7 @@ data_at s k o e =
     (Ok (drop_data k (record s { memory = written place bytes s.memory })))))
 
 module _ (m : Module) (b : List ℕ) (p : PlainStore) (k x place : ℕ) (offset : Expr) (bytes : List ℕ)
-    (at : offset_in (map plain p.globals) offset ≡ Some place) (held : slice_get (datas_of p.dropped m.segments) k ≡ Some bytes) where
+    (at : offset_in (map argument p.globals) offset ≡ Some place) (held : slice_get (datas_of p.dropped m.segments) k ≡ Some bytes) where
   data_reaches : start_data k (Active x offset) (store_with m b p) ≡
       in_range (place + length bytes) (length b) MemoryCause (Ok (drop_data k (record (store_with m b p) { memory = written place bytes b })))
   data_reaches =
@@ -97,8 +98,8 @@ cells_count word cells b is = ap (λ l. length l) is ∙ long_map word b
 
 -- ---- words, one more
 
-pub words_more : {A V M : Type 0} (H : A → V → Type 0) (means : A → V → M) (K : Kind M) (old mid new : A) (values : List (CodeValue ℕ)) (i : ℕ) (words : List (CodeValue V)) (v : CodeValue ℕ) (w : CodeValue V) →
-    WordsSoFar H means K old mid values i words → slice_get values i ≡ Some v → Kept H means mid new → ValueHeld (H new) w → value (means new) w ≡ value_image K.number (plain v) →
+pub words_more : {A V M : Type 0} (H : A → V → Type 0) (means : A → V → M) (K : Kind M) (old mid new : A) (values : List Argument) (i : ℕ) (words : List (CodeValue V)) (v : Argument) (w : CodeValue V) →
+    WordsSoFar H means K old mid values i words → slice_get values i ≡ Some v → Kept H means mid new → ValueHeld (H new) w → value (means new) w ≡ value_image K.number (argument v) →
     WordsSoFar H means K old new values (i + 1) (words ++ w ∷ [])
 words_more H means K old mid new values i words v w so there kept held meant =
     let both : ValuesHeld (H new) words × (map (value (means new)) words ≡ map (value (means mid)) words) = values_kept H means mid new kept words so.held in
@@ -107,11 +108,11 @@ words_more H means K old mid new values i words v w so there kept held meant =
       held = all-append (ValueHeld (H new)) words (w ∷ []) both.0 (held, tt);
       meant =
           append_map (value (means new)) words (w ∷ []) ∙ ap (λ l. l ++ value (means new) w ∷ []) (both.1 ∙ so.meant)
-          ∙ ap (λ x. values_image K.number (map plain (take i values)) ++ x ∷ []) meant
-          ∙ sym (ap (λ l. values_image K.number (map plain l)) (take_next values i v there) ∙ ap (values_image K.number) (append_map plain (take i values) (v ∷ [])) ∙ append_map (value_image K.number) (map plain (take i values)) (plain v ∷ []));
+          ∙ ap (λ x. values_image K.number (map argument (take i values)) ++ x ∷ []) meant
+          ∙ sym (ap (λ l. values_image K.number (map argument l)) (take_next values i v there) ∙ ap (values_image K.number) (append_map argument (take i values) (v ∷ [])) ∙ append_map (value_image K.number) (map argument (take i values)) (argument v ∷ []));
     }
   where
-    take_next : (vs : List (CodeValue ℕ)) (i : ℕ) (v : CodeValue ℕ) → slice_get vs i ≡ Some v → take (i + 1) vs ≡ take i vs ++ v ∷ []
+    take_next : (vs : List Argument) (i : ℕ) (v : Argument) → slice_get vs i ≡ Some v → take (i + 1) vs ≡ take i vs ++ v ∷ []
     take_next [] i v is = absurd cc
     take_next (u ∷ us) zero v is = let same : u ≡ v = cc in rw same refl
     take_next (u ∷ us) (suc i) v is = let next : suc i + 1 ≡ suc (i + 1) = omega arith in rw next (ap (λ l. u ∷ l) (take_next us i v is))

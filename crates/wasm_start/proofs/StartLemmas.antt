@@ -1,17 +1,17 @@
 -- Laws of instantiation.
-use Rattle.std.proofs.Common.{◌≡◌, ℕ, zero, suc, ◌+◌, ◌-◌, ◌*◌, ◌<◌, ◌≤◌, List, [], ◌∷◌, ◌++◌, take, drop, length, map, flat_map, get_or, refl, sym, ap, ◌∙◌, subst, arith, append-nil, append_assoc}
+use Rattle.std.proofs.Common.{◌≡◌, ℕ, zero, suc, ◌+◌, ◌*◌, ◌<◌, ◌≤◌, List, [], ◌∷◌, ◌++◌, take, drop, length, map, flat_map, get_or, refl, sym, ap, ◌∙◌, subst, arith, append-nil, append_assoc}
 use Rattle.std.specs.Prelude.{Bool, true, false, Option, Some, None, option_map, option_and_then, slice_get, slice_set, replicate, Ok, Err}
 use Rattle.std.specs.List.{AllByRecursion}
 use Rattle.wasm_ast.specs.declared.types.Limits.{Limits}
+use Rattle.wasm_ast.specs.declared.modules.GlobalDef.{GlobalDef}
 use Rattle.wasm_ast.specs.declared.modules.Elem.{Elem}
 use Rattle.wasm_ast.specs.declared.modules.Segment.{Segment}
 use Rattle.wasm_ast.specs.declared.modules.Module.{Module}
 use Rattle.wasm_ast.specs.declared.runs.Value.{Value as Argument}
-use Rattle.wasm_ast.specs.declared.runs.Value.TheVariants.{I32 as I32Argument, I64 as I64Argument, Func as FuncArgument, Extern as ExternArgument}
 use Rattle.wasm_rules.specs.Words.{Kind, Kept}
-use Rattle.wasm_reduction.specs.Configurations.{Reference, I32 as I32Value, I64 as I64Value, Store}
+use Rattle.wasm_reduction.specs.Configurations.{Reference, Value, I32 as I32Value, I64 as I64Value, Store}
 use Rattle.wasm_reduction.specs.Images.{value_image, values_image}
-use Rattle.wasm_reduction.specs.Instantiation.{all_of, reference_in, first_globals, first_elems, first_tables, first_memory, allocated_with, allocated, after, start_elem, start_elems, start_data, start_datas, instantiated, argument, invoked, first_config}
+use Rattle.wasm_reduction.specs.Instantiation.{all_of, value_of, reference_in, globals_after, first_globals, first_elems, first_tables, first_memory, allocated_with, allocated, after, start_elem, start_elems, start_data, start_datas, instantiated, argument, invoked, first_config}
 use Rattle.wasm_reduction.specs.Combinators.{written}
 use Rattle.wasm_reduction.specs.Memories.{page_bytes}
 use Rattle.wasm_machine.specs.declared.values.Reference.{Reference as CodeReference}
@@ -22,7 +22,7 @@ use Rattle.wasm_start.specs.declared.allocation.Stop.TheVariants.{Traps as StopT
 use Rattle.wasm_machine.specs.Configurations.{datas_of, config_of, configuration}
 use Rattle.wasm_machine.specs.States.{State}
 use Rattle.wasm_machine.specs.Values.{reference, value, ValueHeld, ValuesHeld}
-use Rattle.wasm_start.specs.code.Starts.{argument_value, plain, PlainStore, HasSegments, store_with, AreByteValues, FromBytes, first_state}
+use Rattle.wasm_start.specs.code.Starts.{PlainStore, HasSegments, store_with, AreByteValues, FromBytes, first_state}
 use Rattle.wasm_start.specs.Starts.{stop_of}
 
 -- ---- all of a list
@@ -35,6 +35,12 @@ pub next_is : {A : Type 0} (xs : List A) (i : ℕ) (x : A) → i < length xs →
 next_is [] i x lt is = absurd (omega arith)
 next_is (y ∷ ys) zero x lt is = let same : x ≡ y = is in rw same refl
 next_is (y ∷ ys) (suc i) x lt is = let e : suc i + 1 ≡ suc (i + 1) = omega arith in rw e (next_is ys i x (omega arith) is)
+
+pub none_left : {A : Type 0} (xs : List A) (i : ℕ) → length xs ≤ i → drop i xs ≡ []
+none_left [] zero le = refl
+none_left [] (suc i) le = refl
+none_left (x ∷ xs) zero le = absurd (omega arith)
+none_left (x ∷ xs) (suc i) le = none_left xs i (omega arith)
 
 module _ {A B : Type 0} (f : A → Option B) where
   map_none : (o : Option (List B)) → o ≡ option_map (λ ys. [] ++ ys) o
@@ -58,12 +64,6 @@ module _ {A B : Type 0} (f : A → Option B) where
   all_lack xs i done x lt is found h =
       h ∙ ap (λ l. option_map (λ ys. done ++ ys) (all_of (map f l))) (next_is xs i x lt is)
       ∙ ap (λ o. option_map (λ ys. done ++ ys) (option_and_then (λ y. option_map (λ ys. y ∷ ys) (all_of (map f (drop (i + 1) xs)))) o)) found
-
-  none_left : (xs : List A) (i : ℕ) → length xs ≤ i → drop i xs ≡ []
-  none_left [] zero le = refl
-  none_left [] (suc i) le = refl
-  none_left (x ∷ xs) zero le = absurd (omega arith)
-  none_left (x ∷ xs) (suc i) le = none_left xs i (omega arith)
 
   pub all_end : (xs : List A) (i : ℕ) (done : List B) → length xs ≤ i → Done f xs i done → all_of (map f xs) ≡ Some done
   all_end xs i done le h =
@@ -141,10 +141,10 @@ next_data gs k e s is =
 
 -- ---- words
 
-pub record WordsSoFar {A V M : Type 0} (H : A → V → Type 0) (means : A → V → M) (K : Kind M) (old new : A) (values : List (CodeValue ℕ)) (i : ℕ) (words : List (CodeValue V)) : Type 0 where
+pub record WordsSoFar {A V M : Type 0} (H : A → V → Type 0) (means : A → V → M) (K : Kind M) (old new : A) (values : List Argument) (i : ℕ) (words : List (CodeValue V)) : Type 0 where
   pub kept : Kept H means old new
   pub held : ValuesHeld (H new) words
-  pub meant : map (value (means new)) words ≡ values_image K.number (map plain (take i values))
+  pub meant : map (value (means new)) words ≡ values_image K.number (map argument (take i values))
 
 -- ---- pages of the memory
 
@@ -154,26 +154,16 @@ pub record PagesSoFar (m : Module) (i pages : ℕ) : Type 0 where
 
 -- ---- the first configuration
 
-plain-argument : (a : Argument) → plain (argument_value a) ≡ argument a
-plain-argument (I32Argument n) = refl
-plain-argument (I64Argument n) = refl
-plain-argument (FuncArgument f) = refl
-plain-argument ExternArgument = refl
-
-pub plain-arguments : (args : List Argument) → map plain (map argument_value args) ≡ map argument args
-plain-arguments [] = refl
-plain-arguments (a ∷ args) = ap (λ v. v ∷ map plain (map argument_value args)) (plain-argument a) ∙ ap (λ l. argument a ∷ l) (plain-arguments args)
-
 pub fused : {M : Type 0} (number : ℕ → M) (args : List Argument) → values_image number (map argument args) ≡ map (λ a. value_image number (argument a)) args
 fused number [] = refl
 fused number (a ∷ args) = ap (λ l. value_image number (argument a) ∷ l) (fused number args)
 
 pub first_config_of : {V M : Type 0} (h : V → M) (K : Kind M) (m : Module) (p : PlainStore) (entry : ℕ) (args : List Argument) (c : List ℕ) (s : State (CodeValue V)) →
-    map (value h) s.operands ≡ values_image K.number (map plain (map argument_value args)) → map (value h) s.globals ≡ values_image K.number (map plain p.globals) → s ≡ first_state p entry s.operands s.globals →
+    map (value h) s.operands ≡ values_image K.number (map argument args) → map (value h) s.globals ≡ values_image K.number (map argument p.globals) → s ≡ first_state p entry s.operands s.globals →
     instantiated m ≡ Ok (store_with m c p) → first_config K m entry args ≡ Ok (configuration h m (map K.number c) s)
 first_config_of h K m p entry args c s operands globals others is =
     ap (invoked K m entry args) is
-    ∙ ap (λ O. Ok (config_of m (map K.number c) (first_state p entry O (values_image K.number (map plain p.globals))))) (sym (fused K.number args) ∙ ap (values_image K.number) (sym (plain-arguments args)) ∙ sym operands)
+    ∙ ap (λ O. Ok (config_of m (map K.number c) (first_state p entry O (values_image K.number (map argument p.globals))))) (sym (fused K.number args) ∙ sym operands)
     ∙ ap (λ G. Ok (config_of m (map K.number c) (first_state p entry (map (value h) s.operands) G))) (sym globals)
     ∙ ap (λ t. Ok (configuration h m (map K.number c) t)) (sym others)
 
@@ -282,17 +272,17 @@ module _ {A B : Type 0} (f : A → Option B) where
 
 -- ---- the store before segments are written
 
-pub allocated_is : (m : Module) (p : PlainStore) → first_globals m ≡ Some (map plain p.globals) → first_elems m (map plain p.globals) ≡ Some (map (λ t. map reference t) p.elems) →
+pub allocated_is : (m : Module) (p : PlainStore) → first_globals m ≡ Some (map argument p.globals) → first_elems m (map argument p.globals) ≡ Some (map (λ t. map reference t) p.elems) →
     first_tables m ≡ Some (map (λ t. map reference t) p.tables) → p.dropped ≡ replicate (length m.segments) false → allocated m ≡ Some (store_with m (first_memory m) p)
 allocated_is m p globals elems tables dropped =
     ap (λ o. option_and_then (allocated_with m) o) globals
-    ∙ ap (λ o. option_and_then (λ elems. option_map (λ tables. record { globals = map plain p.globals; tables = tables; memory = first_memory m; elems = elems; datas = map (λ s. s.bytes) m.segments }) (first_tables m)) o) elems
-    ∙ ap (λ o. option_map (λ tables. record { globals = map plain p.globals; tables = tables; memory = first_memory m; elems = map (λ t. map reference t) p.elems; datas = map (λ s. s.bytes) m.segments }) o) tables
-    ∙ ap (λ d. Some (record { globals = map plain p.globals; tables = map (λ t. map reference t) p.tables; memory = first_memory m; elems = map (λ t. map reference t) p.elems; datas = d })) (sym (ap (λ d. datas_of d m.segments) dropped ∙ datas_none m.segments))
+    ∙ ap (λ o. option_and_then (λ elems. option_map (λ tables. record { globals = map argument p.globals; tables = tables; memory = first_memory m; elems = elems; datas = map (λ s. s.bytes) m.segments }) (first_tables m)) o) elems
+    ∙ ap (λ o. option_map (λ tables. record { globals = map argument p.globals; tables = tables; memory = first_memory m; elems = map (λ t. map reference t) p.elems; datas = map (λ s. s.bytes) m.segments }) o) tables
+    ∙ ap (λ d. Some (record { globals = map argument p.globals; tables = map (λ t. map reference t) p.tables; memory = first_memory m; elems = map (λ t. map reference t) p.elems; datas = d })) (sym (ap (λ d. datas_of d m.segments) dropped ∙ datas_none m.segments))
 
-pub has_segments : (m : Module) (p : PlainStore) → first_elems m (map plain p.globals) ≡ Some (map (λ t. map reference t) p.elems) → p.dropped ≡ replicate (length m.segments) false → HasSegments m p
+pub has_segments : (m : Module) (p : PlainStore) → first_elems m (map argument p.globals) ≡ Some (map (λ t. map reference t) p.elems) → p.dropped ≡ replicate (length m.segments) false → HasSegments m p
 has_segments m p elems dropped = record {
-  elems = sym (long_map (λ t. map reference t) p.elems) ∙ all-length (λ e. all_of (map (reference_in (map plain p.globals)) e.items)) m.elems (map (λ t. map reference t) p.elems) elems;
+  elems = sym (long_map (λ t. map reference t) p.elems) ∙ all-length (λ e. all_of (map (reference_in (map argument p.globals)) e.items)) m.elems (map (λ t. map reference t) p.elems) elems;
   dropped = ap (λ l. length l) dropped ∙ replicated (length m.segments);
 }
   where
@@ -327,3 +317,23 @@ pages_more m i pages l so there small = record {
     snoc : (ls : List Limits) → flat_map (λ limits. replicate {A = ℕ} (limits.min * page_bytes) 0) (ls ++ l ∷ []) ≡ flat_map (λ limits. replicate {A = ℕ} (limits.min * page_bytes) 0) ls ++ replicate {A = ℕ} (l.min * page_bytes) 0
     snoc [] = append-nil (replicate {A = ℕ} (l.min * page_bytes) 0)
     snoc (k ∷ ls) = ap (λ xs. replicate {A = ℕ} (k.min * page_bytes) 0 ++ xs) (snoc ls) ∙ sym (append_assoc (replicate {A = ℕ} (k.min * page_bytes) 0) (flat_map (λ limits. replicate {A = ℕ} (limits.min * page_bytes) 0) ls) (replicate {A = ℕ} (l.min * page_bytes) 0))
+
+-- ---- the globals, in the order of their numbers
+
+-- the first i of the globals have these values, and the others are still to be evaluated
+abbrev pub GlobalsSoFar : List GlobalDef → ℕ → List (Value ℕ) → Type 0
+GlobalsSoFar gs i done = globals_after [] gs ≡ globals_after done (drop i gs)
+
+pub globals_begin : (gs : List GlobalDef) → GlobalsSoFar gs 0 []
+globals_begin gs = refl
+
+pub globals_more : (gs : List GlobalDef) (i : ℕ) (done : List (Value ℕ)) (g : GlobalDef) (v : Value ℕ) → i < length gs → g ≡ get_or gs i g → value_of done g.init ≡ Some v → GlobalsSoFar gs i done → GlobalsSoFar gs (i + 1) (done ++ v ∷ [])
+globals_more gs i done g v lt is found h =
+    h ∙ ap (globals_after done) (next_is gs i g lt is) ∙ ap (option_and_then (λ v. globals_after (done ++ v ∷ []) (drop (i + 1) gs))) found
+
+pub globals_lack : (gs : List GlobalDef) (i : ℕ) (done : List (Value ℕ)) (g : GlobalDef) → i < length gs → g ≡ get_or gs i g → value_of done g.init ≡ None → GlobalsSoFar gs i done → globals_after [] gs ≡ None
+globals_lack gs i done g lt is found h =
+    h ∙ ap (globals_after done) (next_is gs i g lt is) ∙ ap (option_and_then (λ v. globals_after (done ++ v ∷ []) (drop (i + 1) gs))) found
+
+pub globals_end : (gs : List GlobalDef) (i : ℕ) (done : List (Value ℕ)) → length gs ≤ i → GlobalsSoFar gs i done → globals_after [] gs ≡ Some done
+globals_end gs i done le h = h ∙ ap (globals_after done) (none_left gs i le)

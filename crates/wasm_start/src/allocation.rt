@@ -1,15 +1,15 @@
 // Allocation (Execution, Modules: Allocation): the store before any segment is written.
 ghost use Rattle.std.specs.Prelude.{IfOk, IfSome, map, replicate, option_map};
-ghost use Rattle.wasm_reduction.specs.Instantiation.{reference_in, all_of, first_globals as globals_of, first_elems as elems_of, first_tables as tables_of, first_memory, allocated as allocated_of};
+ghost use Rattle.wasm_reduction.specs.Instantiation.{argument, reference_in, all_of, first_globals as globals_of, first_elems as elems_of, first_tables as tables_of, first_memory, allocated as allocated_of};
 ghost use Rattle.wasm_reduction.specs.Tables.{null_of};
-ghost use Rattle.wasm_start.specs.code.Starts.{plain, Represents, store_with, HasSegments};
+ghost use Rattle.wasm_start.specs.code.Starts.{Represents, store_with, HasSegments};
 ghost use Rattle.wasm_machine.specs.Values.{reference as reference_as};
 
 use crate::constants::{null, reference_of, value_of};
 use std::alloc::{AllocError, Global};
 use std::marker::Model;
-use wasm_ast::{Cause, Expr, Module, TableType};
-use wasm_machine::values::{Reference, Value};
+use wasm_ast::{Cause, Expr, Module, TableType, Value};
+use wasm_machine::values::Reference;
 
 /// Why a module can't be instantiated.
 #[derive(Clone, Copy)]
@@ -20,10 +20,10 @@ pub enum Stop {
     Stuck,
 }
 
-/// A module's store but for its memory, on plain numbers.
+/// A module's store but for its memory, on plain values.
 #[derive(Drop)]
 pub(crate) struct PlainStore {
-    pub(crate) globals: Vec<Value<u64>>,
+    pub(crate) globals: Vec<Value>,
     pub(crate) tables: Vec<Vec<Reference>>,
     pub(crate) elems: Vec<Vec<Reference>>,
     pub(crate) dropped: Vec<bool>,
@@ -43,13 +43,13 @@ impl Model for PlainStore {
     } };
 }
 
-// The values of the globals as they begin.
-fn first_globals(alloc: Global, m: &Module) -> Result<Option<Vec<Value<u64>>>, AllocError>
-    ensures { IfOk result (λ told. Represents (λ v. map plain v.items) (globals_of m.now) told) }
+// The values of the globals as they begin, each in view of those before it.
+fn first_globals(alloc: Global, m: &Module) -> Result<Option<Vec<Value>>, AllocError>
+    ensures { IfOk result (λ told. Represents (λ v. map argument v.items) (globals_of m.now) told) }
 {
     let mut globals = Vec::new(alloc);
     for global in m.globals.as_slice() {
-        let Some(v) = value_of(&[], &global.init) else {
+        let Some(v) = value_of(alloc, globals.as_slice(), &global.init)? else {
             return Ok(None);
         };
         globals.push(v)?;
@@ -60,14 +60,14 @@ fn first_globals(alloc: Global, m: &Module) -> Result<Option<Vec<Value<u64>>>, A
 // The references that these expressions give.
 fn references_of(
     alloc: Global,
-    globals: &[Value<u64>],
+    globals: &[Value],
     items: &[Expr],
 ) -> Result<Option<Vec<Reference>>, AllocError>
-    ensures { IfOk result (λ told. Represents (λ v. map reference_as v.items) (all_of (map (reference_in (map plain globals.now)) items.now)) told) }
+    ensures { IfOk result (λ told. Represents (λ v. map reference_as v.items) (all_of (map (reference_in (map argument globals.now)) items.now)) told) }
 {
     let mut references = Vec::new(alloc);
     for item in items {
-        let Some(r) = reference_of(globals, item) else {
+        let Some(r) = reference_of(alloc, globals, item)? else {
             return Ok(None);
         };
         references.push(r)?;
@@ -79,9 +79,9 @@ fn references_of(
 fn first_elems(
     alloc: Global,
     m: &Module,
-    globals: &[Value<u64>],
+    globals: &[Value],
 ) -> Result<Option<Vec<Vec<Reference>>>, AllocError>
-    ensures { IfOk result (λ told. Represents (λ v. map (λ t. map reference_as t.items) v.items) (elems_of m.now (map plain globals.now)) told) }
+    ensures { IfOk result (λ told. Represents (λ v. map (λ t. map reference_as t.items) v.items) (elems_of m.now (map argument globals.now)) told) }
 {
     let mut elems = Vec::new(alloc);
     for elem in m.elems.as_slice() {

@@ -5,11 +5,11 @@ ghost use Rattle.wasm_ast.specs.declared.modules.Mode.{Mode as OneMode};
 ghost use Rattle.wasm_reduction.specs.Combinators.{written};
 ghost use Rattle.wasm_reduction.specs.Instantiation.{start_elem as elem_started, start_elems as elems_started, start_data as data_started, start_datas as datas_started};
 ghost use Rattle.wasm_machine.specs.Configurations.{datas_of};
-ghost use Rattle.wasm_start.specs.code.Starts.{plain, store_with, Writes, FromBytes};
+ghost use Rattle.wasm_start.specs.code.Starts.{store_with, Writes, FromBytes};
 
 use crate::allocation::{PlainStore, Stop};
 use crate::constants::offset_of;
-use std::alloc::AllocError;
+use std::alloc::{AllocError, Global};
 use wasm_ast::{Cause, Expr, Mode, Module};
 use wasm_machine::memory::Memory;
 use wasm_machine::values::Reference;
@@ -31,60 +31,75 @@ fn passes(place: u64, count: usize, size: u64) -> bool
 }
 
 // The element segment k, of this mode.
-fn start_elem(p: &mut PlainStore, k: usize, mode: &Mode) -> Result<(), Stop>
+fn start_elem(
+    alloc: Global,
+    p: &mut PlainStore,
+    k: usize,
+    mode: &Mode,
+) -> Result<Result<(), Stop>, AllocError>
     requires { k < length p.old.elems }
-    ensures writes { (m : OneModule) (b : Items ℕ) → Writes (elem_started k mode.now (store_with m b p.old)) (store_with m b p.new) result }
+    ensures writes { IfOk result (λ r. (m : OneModule) (b : Items ℕ) → Writes (elem_started k mode.now (store_with m b p.old)) (store_with m b p.new) r) }
     ensures count { length p.new.elems ≡ length p.old.elems }
     ensures dropped { p.new.dropped ≡ p.old.dropped }
 {
     match mode {
-        Mode::Passive => Ok(()),
+        Mode::Passive => Ok(Ok(())),
         Mode::Declared => {
             p.elems[k].clear();
-            Ok(())
+            Ok(Ok(()))
         }
-        Mode::Active { index, offset } => write_elem(p, k, *index, offset),
+        Mode::Active { index, offset } => Ok(write_elem(alloc, p, k, *index, offset)?),
     }
 }
 
 // The active element segment k, which is written into the table x.
-fn write_elem(p: &mut PlainStore, k: usize, x: u32, offset: &Expr) -> Result<(), Stop>
+fn write_elem(
+    alloc: Global,
+    p: &mut PlainStore,
+    k: usize,
+    x: u32,
+    offset: &Expr,
+) -> Result<Result<(), Stop>, AllocError>
     requires { k < length p.old.elems }
-    ensures writes { (m : OneModule) (b : Items ℕ) → Writes (elem_started k (OneMode.Active x offset.now) (store_with m b p.old)) (store_with m b p.new) result }
+    ensures writes { IfOk result (λ r. (m : OneModule) (b : Items ℕ) → Writes (elem_started k (OneMode.Active x offset.now) (store_with m b p.old)) (store_with m b p.new) r) }
     ensures count { length p.new.elems ≡ length p.old.elems }
     ensures dropped { p.new.dropped ≡ p.old.dropped }
 {
-    let Some(place) = offset_of(p.globals.as_slice(), offset) else {
-        return Err(Stop::Stuck);
+    let Some(place) = offset_of(alloc, p.globals.as_slice(), offset)? else {
+        return Ok(Err(Stop::Stuck));
     };
     let x = x as usize;
     if x >= p.tables.len() {
-        return Err(Stop::Stuck);
+        return Ok(Err(Stop::Stuck));
     }
     if passes(
-        place,
+        place as u64,
         p.elems[k].as_slice().len(),
         p.tables[x].as_slice().len() as u64,
     ) {
-        return Err(Stop::Traps(Cause::Table));
+        return Ok(Err(Stop::Traps(Cause::Table)));
     }
     overwrite(&mut p.tables[x], place as usize, p.elems[k].as_slice());
     p.elems[k].clear();
-    Ok(())
+    Ok(Ok(()))
 }
 
 // The element segments, in order.
-pub(crate) fn start_elems(p: &mut PlainStore, m: &Module) -> Result<(), Stop>
+pub(crate) fn start_elems(
+    alloc: Global,
+    p: &mut PlainStore,
+    m: &Module,
+) -> Result<Result<(), Stop>, AllocError>
     requires { length p.old.elems ≡ length m.now.elems }
-    ensures writes { (b : Items ℕ) → Writes (elems_started 0 m.now.elems (store_with m.now b p.old)) (store_with m.now b p.new) result }
+    ensures writes { IfOk result (λ r. (b : Items ℕ) → Writes (elems_started 0 m.now.elems (store_with m.now b p.old)) (store_with m.now b p.new) r) }
     ensures dropped { p.new.dropped ≡ p.old.dropped }
 {
     for k in 0..m.elems.len() {
-        if let Err(stop) = start_elem(p, k, &m.elems.get(k).mode) {
-            return Err(stop);
+        if let Err(stop) = start_elem(alloc, p, k, &m.elems.get(k).mode)? {
+            return Ok(Err(stop));
         }
     }
-    Ok(())
+    Ok(Ok(()))
 }
 
 // Whether the data segment k is dropped.
@@ -116,6 +131,7 @@ fn see_bytes(bytes: &[u8])
 
 // The data segment k, of this mode.
 fn start_data<A: Algebra, M: Memory<A>>(
+    alloc: Global,
     p: &mut PlainStore,
     memory: &mut M,
     k: usize,
@@ -129,13 +145,14 @@ fn start_data<A: Algebra, M: Memory<A>>(
     ensures counted { IfOk result (λ _. length p.new.dropped ≡ length m.now.segments) }
 {
     match mode {
-        Mode::Active { offset, .. } => Ok(write_data(p, memory, k, m, offset)?),
+        Mode::Active { offset, .. } => Ok(write_data(alloc, p, memory, k, m, offset)?),
         _ => Ok(Ok(())),
     }
 }
 
 // The active data segment k.
 fn write_data<A: Algebra, M: Memory<A>>(
+    alloc: Global,
     p: &mut PlainStore,
     memory: &mut M,
     k: usize,
@@ -148,21 +165,22 @@ fn write_data<A: Algebra, M: Memory<A>>(
         (λ b c. Writes (data_started k (OneMode.Active x offset.now) (store_with m.now b p.old)) (store_with m.now c p.new) r)) }
     ensures counted { IfOk result (λ _. length p.new.dropped ≡ length m.now.segments) }
 {
-    let Some(place) = offset_of(p.globals.as_slice(), offset) else {
+    let Some(place) = offset_of(alloc, p.globals.as_slice(), offset)? else {
         return Ok(Err(Stop::Stuck));
     };
     let bytes = data_of(p.dropped.as_slice(), k, m);
     see_bytes(bytes);
-    if passes(place, bytes.len(), memory.length()) {
+    if passes(place as u64, bytes.len(), memory.length()) {
         return Ok(Err(Stop::Traps(Cause::Memory)));
     }
-    memory.write_bytes(place, bytes)?;
+    memory.write_bytes(place as u64, bytes)?;
     p.dropped[k] = true;
     Ok(Ok(()))
 }
 
 // The data segments, in order.
 pub(crate) fn start_datas<A: Algebra, M: Memory<A>>(
+    alloc: Global,
     p: &mut PlainStore,
     memory: &mut M,
     m: &Module,
@@ -172,7 +190,7 @@ pub(crate) fn start_datas<A: Algebra, M: Memory<A>>(
         (λ b c. Writes (datas_started 0 m.now.segments (store_with m.now b p.old)) (store_with m.now c p.new) r)) }
 {
     for k in 0..m.segments.len() {
-        if let Err(stop) = start_data(p, memory, k, m, &m.segments.get(k).mode)? {
+        if let Err(stop) = start_data(alloc, p, memory, k, m, &m.segments.get(k).mode)? {
             return Ok(Err(stop));
         }
     }

@@ -4,15 +4,15 @@ ghost use Rattle.wasm_rules.specs.Words.{Kept};
 ghost use Rattle.wasm_image.specs.Sizes.{AreAtMost, most_pages};
 ghost use Rattle.wasm_reduction.specs.Memories.{page_bytes};
 ghost use Rattle.wasm_reduction.specs.Images.{value_image, values_image};
-ghost use Rattle.wasm_reduction.specs.Instantiation.{first_memory, first_config};
-ghost use Rattle.wasm_start.specs.code.Starts.{argument_value, plain, AreByteValues, Instantiates, outermost_frame, first_state};
+ghost use Rattle.wasm_reduction.specs.Instantiation.{argument, first_memory, first_config};
+ghost use Rattle.wasm_start.specs.code.Starts.{AreByteValues, Instantiates, outermost_frame, first_state};
 ghost use Rattle.wasm_start.specs.Starts.{BeginsAs, IsInOrder};
 ghost use Rattle.wasm_machine.specs.Values.{value as value_as, ValueHeld, ValuesHeld};
 
 use crate::allocation::{PlainStore, Stop, allocated};
 use crate::segments::{start_datas, start_elems};
 use std::alloc::{AllocError, Global};
-use wasm_ast::{Module, Value as Argument};
+use wasm_ast::{Module, Value as PlainValue};
 use wasm_machine::machine::{Frame, Label, Machine};
 use wasm_machine::memory::Memory;
 use wasm_machine::values::{Reference, Value};
@@ -37,25 +37,26 @@ fn instantiate<A: Algebra, M: Memory<A>>(
     let Some(mut p) = allocated(alloc, m)? else {
         return Ok(Err(Stop::Stuck));
     };
-    if let Err(stop) = start_elems(&mut p, m) {
+    if let Err(stop) = start_elems(alloc, &mut p, m)? {
         return Ok(Err(stop));
     }
-    if let Err(stop) = start_datas(&mut p, memory, m)? {
+    if let Err(stop) = start_datas(alloc, &mut p, memory, m)? {
         return Ok(Err(stop));
     }
     Ok(Ok(p))
 }
 
 // A plain value as a value of words.
-fn word_of<A: Algebra>(a: &mut A, v: Value<u64>) -> Value<A::Word>
+fn word_of<A: Algebra>(a: &mut A, v: PlainValue) -> Value<A::Word>
     ensures kept { Kept A.holds A.means a.old a.new }
     ensures held { ValueHeld (A.holds a.new) result }
-    ensures means { value_as (A.means a.new) result ≡ value_image A.kind.number (plain v) }
+    ensures means { value_as (A.means a.new) result ≡ value_image A.kind.number (argument v) }
 {
     match v {
-        Value::I32(n) => Value::I32(a.constant(n)),
-        Value::I64(n) => Value::I64(a.constant(n)),
-        Value::Ref(r) => Value::Ref(r),
+        PlainValue::I32(n) => Value::I32(a.constant(n as u64)),
+        PlainValue::I64(n) => Value::I64(a.constant(n)),
+        PlainValue::Func(f) => Value::Ref(Reference::Func(f)),
+        PlainValue::Extern => Value::Ref(Reference::Extern),
     }
 }
 
@@ -63,11 +64,11 @@ fn word_of<A: Algebra>(a: &mut A, v: Value<u64>) -> Value<A::Word>
 fn words_of<A: Algebra>(
     alloc: Global,
     a: &mut A,
-    values: &[Value<u64>],
+    values: &[PlainValue],
 ) -> Result<Vec<Value<A::Word>>, AllocError>
     ensures kept { Kept A.holds A.means a.old a.new }
     ensures held { IfOk result (λ v. ValuesHeld (A.holds a.new) v.items) }
-    ensures means { IfOk result (λ v. map (value_as (A.means a.new)) v.items ≡ values_image A.kind.number (map plain values.now)) }
+    ensures means { IfOk result (λ v. map (value_as (A.means a.new)) v.items ≡ values_image A.kind.number (map argument values.now)) }
 {
     let mut words = Vec::new(alloc);
     for v in values {
@@ -75,25 +76,6 @@ fn words_of<A: Algebra>(
         words.push(w)?;
     }
     Ok(words)
-}
-
-// An argument as a plain value.
-fn argument(v: Argument) -> Value<u64>
-    ensures { result ≡ argument_value v }
-{
-    match v {
-        Argument::I32(n) => Value::I32(n as u64),
-        Argument::I64(n) => Value::I64(n),
-        Argument::Func(f) => Value::Ref(Reference::Func(f)),
-        Argument::Extern => Value::Ref(Reference::Extern),
-    }
-}
-
-// The arguments as plain values.
-fn arguments(alloc: Global, args: &[Argument]) -> Result<Vec<Value<u64>>, AllocError>
-    ensures { IfOk result (λ v. v.items ≡ map argument_value args.now) }
-{
-    args.iter().map(|v| argument(*v)).collect(alloc)
 }
 
 // The outermost frame, at its beginning.
@@ -140,7 +122,7 @@ pub fn start<A: Algebra, M: Memory<A>>(
     memory: &mut M,
     m: &Module,
     entry: u32,
-    args: &[Argument],
+    args: &[PlainValue],
 ) -> Result<Begun<A::Word>, AllocError>
     requires { M.cells memory.old ≡ map M.plain (first_memory m.now) }
     ensures kept { Kept A.holds A.means a.old a.new }
@@ -163,17 +145,16 @@ fn machine_of<A: Algebra>(
     a: &mut A,
     p: PlainStore,
     entry: u32,
-    args: &[Argument],
+    args: &[PlainValue],
 ) -> Result<Machine<A::Word>, AllocError>
     ensures kept { Kept A.holds A.means a.old a.new }
-    ensures operands { IfOk result (λ s. map (value_as (A.means a.new)) s.operands ≡ values_image A.kind.number (map plain (map argument_value args.now))) }
-    ensures globals { IfOk result (λ s. map (value_as (A.means a.new)) s.globals ≡ values_image A.kind.number (map plain p.globals)) }
+    ensures operands { IfOk result (λ s. map (value_as (A.means a.new)) s.operands ≡ values_image A.kind.number (map argument args.now)) }
+    ensures globals { IfOk result (λ s. map (value_as (A.means a.new)) s.globals ≡ values_image A.kind.number (map argument p.globals)) }
     ensures others { IfOk result (λ s. s ≡ first_state p entry s.operands s.globals) }
     ensures operands_held { IfOk result (λ s. ValuesHeld (A.holds a.new) s.operands) }
     ensures globals_held { IfOk result (λ s. ValuesHeld (A.holds a.new) s.globals) }
 {
-    let args = arguments(alloc, args)?;
-    let operands = words_of(alloc, a, args.as_slice())?;
+    let operands = words_of(alloc, a, args)?;
     let globals = words_of(alloc, a, p.globals.as_slice())?;
     Ok(Machine {
         operands,

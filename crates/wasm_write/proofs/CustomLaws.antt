@@ -4,11 +4,11 @@ use Rattle.std.specs.Prelude.{◌==◌, ◌&&◌, ◌||◌, nat_le, IsTrue}
 use Rattle.std.specs.List.Sorted.{IsNonDecreasingBy}
 use Rattle.std.proofs.lemmas.Bool.{cases_lt, cases_eq, le-leb, lt-leb, eq-eqb, ne_eqb}
 use Rattle.std.proofs.lemmas.Bool.Decides.{nat_tests}
-use Rattle.owi_base.proofs.SignedReading.{taken, passed}
 use Rattle.wasm_ast.specs.Sections.{is_written}
 use Rattle.wasm_ast.specs.declared.modules.Custom.{Custom}
 use Rattle.wasm_ast.specs.declared.modules.Module.{Module}
 use Rattle.wasm_binary.specs.Modules.{last_written, settled}
+use Rattle.owi_base.proofs.Choices.{taken, passed}
 
 abbrev pub at_slot : ℕ → List Custom → List Custom
 at_slot slot cs = filter (λ c. c.after == slot) cs
@@ -102,14 +102,6 @@ place_within m c h = elim h [ inl e ↦ omega arith | inr e ↦ slot_within m c.
 pub last_is : (m : Module) (slot : ℕ) → (slot ≡ 0) ⊎ IsTrue (is_written m slot) → last_written m slot ≡ slot
 last_is m zero h = refl
 last_is m (suc slot) h = elim h [ inl e ↦ absurd (omega arith) | inr e ↦ taken (is_written m (suc slot)) (suc slot) (last_written m slot) e ]
-
-pub last_within : (m : Module) (slot : ℕ) → last_written m slot ≤ slot
-last_within m zero = omega arith
-last_within m (suc slot) = by_test (is_written m (suc slot)) (last_within m slot)
-  where
-    by_test : (b : Bool) → last_written m slot ≤ slot → cond b (suc slot) (last_written m slot) ≤ suc slot
-    by_test true le = omega arith
-    by_test false le = omega arith
 
 -- customs that have their places stay at them
 pub all_settled : (m : Module) (cs : List Custom) → All (HasPlace m) cs → map (settled m) cs ≡ cs

@@ -7,7 +7,7 @@ use Rattle.std.proofs.lemmas.Bool.{cases_lt}
 use Rattle.std.proofs.lemmas.Bool.Decides.{nat_tests}
 use Rattle.std.proofs.lemmas.Int.{ints}
 use Rattle.owi_base.specs.Leb.{unsigned_bytes, signed_bytes, low_bits, high_part}
-use Rattle.owi_base.specs.Forms.{any_byte, many}
+use Rattle.grammar_forms.specs.Forms.{any_byte, many}
 use Rattle.owi_base.proofs.DigitLaws.{unsigned_spells, signed_spells, signed_bytes_one, signed_bytes_more}
 use Rattle.wasm_ast.specs.Opcodes.{is_from}
 use Rattle.wasm_ast.specs.Shape.{IsShort, IsReference, FuncTypeHasShape}
@@ -24,7 +24,7 @@ use Rattle.wasm_binary.specs.Values.{Grammar, u32, s33, vec, name, text_of}
 use Rattle.wasm_binary.specs.Types.{ref_type, val_type, func_type, limits, table_type, global_type, block_type}
 use Rattle.wasm_write.specs.Values.{vec_bytes, sized}
 use Rattle.wasm_write.specs.Types.{type_byte, val_type_bytes, func_type_bytes, sizes_bytes, limits_bytes, table_type_bytes, global_type_bytes, block_type_bytes}
-use Rattle.wasm_write.specs.Ranges.{IsU32, LimitsInRange, BlockTypeInRange}
+use Rattle.wasm_ast.specs.Ranges.{IsU32, LimitsInRange, BlockTypeInRange}
 
 -- ---- lists
 

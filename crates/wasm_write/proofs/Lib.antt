@@ -3,7 +3,7 @@ pub mod Examples
 pub mod FormSpelled
 pub mod LocalsSpelled
 pub mod ModulesSpelled
-pub mod PartsSpelled
+pub mod SectionEntriesSpelled
 pub mod PlainSpelled
 pub mod PutLaws
 pub mod SectionsSpelled

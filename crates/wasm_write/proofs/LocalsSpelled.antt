@@ -5,7 +5,6 @@ use Rattle.std.specs.List.{flat_map, AllAdjacentBelow}
 use Rattle.std.proofs.lemmas.Bool.{le-leb, ne_eqb}
 use Rattle.std.proofs.lemmas.List.Sums.{sum_by-cons}
 use Rattle.owi_base.specs.Leb.{unsigned_bytes}
-use Rattle.owi_base.proofs.SignedReading.{taken, passed}
 use Rattle.wasm_ast.specs.Shape.{FuncHasShape}
 use Rattle.wasm_ast.specs.declared.types.ValType.{ValType}
 use Rattle.wasm_ast.specs.declared.types.ValType.TheVariants.{I32, I64, FuncRef, ExternRef}
@@ -16,10 +15,12 @@ use Rattle.wasm_binary.specs.Locals.{few, group, groups, same_kind, with_front, 
 use Rattle.wasm_write.specs.Values.{vec_bytes}
 use Rattle.wasm_write.specs.Types.{val_type_bytes}
 use Rattle.wasm_write.specs.Instructions.{expr_bytes}
-use Rattle.wasm_write.specs.Parts.{group_bytes, code_bytes}
-use Rattle.wasm_write.specs.Ranges.{FuncInRange}
+use Rattle.wasm_write.specs.SectionEntries.{group_bytes, code_bytes}
+use Rattle.wasm_ast.specs.Ranges.{FuncInRange}
 use Rattle.wasm_write.proofs.FormSpelled.{u32_spelled, val_type_spelled}
 use Rattle.wasm_write.proofs.SequencesSpelled.{IsCounted, expr_spelled}
+use Rattle.owi_base.proofs.Choices.{taken, passed}
+use Rattle.wasm_binary.proofs.KindLaws.{same_kind_is}
 
 abbrev total : List Group → ℕ
 total gs = sum_by (λ g. g.count) gs
@@ -53,15 +54,8 @@ groups_spelled (g ∷ gs) before le =
 
 -- ---- groups as a module has them stay as they are
 
-alike : (a b : ValType) → same_kind a b ≡ true → a ≡ b
-alike I32 I32 e = refl
-alike I64 I64 e = refl
-alike FuncRef FuncRef e = refl
-alike ExternRef ExternRef e = refl
-alike a b e = absurd cc
-
 differ : (a b : ValType) (r : Bool) → same_kind a b ≡ r → a ≢ b → r ≡ false
-differ a b true e ne = absurd (ne (alike a b e))
+differ a b true e ne = absurd (ne (same_kind_is a b e))
 differ a b false e ne = refl
 
 front_kept : (g : Group) (gs : List Group) → AllAdjacentBelow (λ a b. a.kind ≢ b.kind) (g ∷ gs) (length (g ∷ gs)) → with_front g gs ≡ g ∷ gs

@@ -9,16 +9,17 @@ use Rattle.wasm_ast.specs.Shape.{CustomHasShape, HasShape}
 use Rattle.wasm_ast.specs.declared.modules.Func.{Func}
 use Rattle.wasm_ast.specs.declared.modules.Custom.{Custom}
 use Rattle.wasm_ast.specs.declared.modules.Module.{Module}
-use Rattle.owi_base.proofs.SignedReading.{taken}
 use Rattle.wasm_binary.specs.Faults.{Fault, magic}
 use Rattle.wasm_binary.specs.Modules.{Sections, no_sections, section, sections, fixed_bytes, funcs_of, without_customs, last_written, settled, module_of, HaveTheirCounts, IsBinary}
 use Rattle.wasm_binary.proofs.BinaryLaws.{one_module}
 use Rattle.wasm_write.specs.Modules as writing
 use Rattle.wasm_write.specs.Modules.{Section, section_of, custom_section, customs_after, section_bytes, shortest, is_long, first_long}
-use Rattle.wasm_write.specs.Ranges.{IsInRange}
-use Rattle.wasm_write.proofs.CustomLaws.{at_slot, gathered, all_gathered, HasPlace, place_within, last_is, last_within, all_settled}
+use Rattle.wasm_ast.specs.Ranges.{IsInRange}
+use Rattle.wasm_write.proofs.CustomLaws.{at_slot, gathered, all_gathered, HasPlace, place_within, last_is, all_settled}
+use Rattle.wasm_binary.proofs.ShapeOfModules.{last_within, binary_shape, EachIsByte-from_all}
 use Rattle.wasm_write.proofs.LocalsSpelled.{code_of}
 use Rattle.wasm_write.proofs.SectionsSpelled.{CustomIsFine, custom_spelled, indices_of, codes_of, up_to, Step, types_step, imports_step, funcs_step, tables_step, memories_step, globals_step, exports_step, start_step, elems_step, data_count_step, code_step, data_step}
+use Rattle.owi_base.proofs.Choices.{taken}
 
 -- ---- sections one after another
 
@@ -230,5 +231,7 @@ shortest_spelled m shape range short =
 pub read_again : (m n : Module) → HasShape m → IsInRange m → first_long (writing.sections m) ≡ None → IsBinary n (shortest m) → n ≡ m
 read_again m n shape range short is = one_module (shortest m) n m is (shortest_spelled m shape range short)
 
-pub written_again : (m n : Module) (bytes : List ℕ) → HasShape m → IsInRange m → first_long (writing.sections m) ≡ None → IsBinary m bytes → IsBinary n (shortest m) → shortest n ≡ shortest m
-written_again m n bytes shape range short was is = ap shortest (read_again m n shape range short is)
+pub written_again : (m n : Module) (bytes written : List ℕ) → All (λ b. b < 2 ^ 8) bytes → IsBinary m bytes → length m.customs < 2 ^ 32 → IsInRange m → first_long (writing.sections m) ≡ None → written ≡ shortest m → IsBinary n written → shortest n ≡ written
+written_again m n bytes written are was few range short is next =
+    let shape = binary_shape m bytes (EachIsByte-from_all bytes are) was few in
+    ap shortest (read_again m n shape range short (subst (λ text. IsBinary n text) is next)) ∙ sym is

@@ -5,9 +5,8 @@ use Rattle.std.proofs.lemmas.Bool.{cases_lt, cases_eq, lt-ltb, le-ltb, ne_eqb}
 use Rattle.std.proofs.lemmas.Bool.Decides.{nat_tests}
 use Rattle.std.proofs.lemmas.Int.{ints}
 use Rattle.owi_base.specs.Leb.{unsigned_bytes, signed_bytes, HasBits, distance}
-use Rattle.owi_base.specs.Forms.{gives, checked, when◌form◌else◌}
+use Rattle.grammar_forms.specs.Forms.{gives, checked, when◌form◌else◌}
 use Rattle.owi_base.proofs.DigitLaws.{signed_spells}
-use Rattle.owi_base.proofs.SignedReading.{taken, passed}
 use Rattle.wasm_ast.specs.Numbering.{named_by}
 use Rattle.wasm_ast.specs.Opcodes.{is_from, is_load, is_store, is_numeric}
 use Rattle.wasm_ast.specs.Sections.{names_data}
@@ -16,12 +15,13 @@ use Rattle.wasm_ast.specs.declared.instructions.Instr.{Instr}
 use Rattle.wasm_ast.specs.declared.instructions.Instr.TheVariants.{Unreachable, Nop, Block, Loop, If, Br, BrIf, BrTable, Return, Call, CallIndirect, RefNull, RefIsNull, RefFunc, Discard, Select, SelectTyped, LocalGet, LocalSet, LocalTee, GlobalGet, GlobalSet, TableGet, TableSet, TableInit, ElemDrop, TableCopy, TableGrow, TableSize, TableFill, Load, Store, MemorySize, MemoryGrow, MemoryInit, DataDrop, MemoryCopy, MemoryFill, Const32, Const64, Num}
 use Rattle.wasm_binary.specs.Faults.{Fault, byte, outside}
 use Rattle.wasm_binary.specs.Values.{Grammar, u32}
-use Rattle.wasm_binary.specs.Instructions.{Opcode, opcode, Around, is_opcode, is_outside, allowed_after_FC, as_opcode, allowed, one_index, two_indices, memory_argument, modulo, index_and_zero, zero_byte, zero_bytes, after_FC, branch_table, constant_32, constant_64, plain, is_last}
+use Rattle.wasm_binary.specs.Instructions.{Opcode, opcode, Around, is_opcode, is_outside, allowed_after_FC, as_opcode, allowed, one_index, two_indices, memory_argument, modulo, index_and_zero, zero_byte, zero_bytes, after_FC, branch_table, null_of, constant_32, constant_64, plain, is_last}
 use Rattle.wasm_write.specs.Values.{vec_bytes}
 use Rattle.wasm_write.specs.Types.{val_type_bytes}
 use Rattle.wasm_write.specs.Instructions as writing
-use Rattle.wasm_write.specs.Ranges.{IsU32, InstrInRange}
+use Rattle.wasm_ast.specs.Ranges.{IsU32, InstrInRange}
 use Rattle.wasm_write.proofs.FormSpelled.{by_recursion, u32_spelled, vec_spelled, kinds_spelled, ref_type_spelled}
+use Rattle.owi_base.proofs.Choices.{taken, passed, is_false}
 
 -- ---- tests that choose a form
 
@@ -55,10 +55,6 @@ one_of_two : (before here c : Bool) → here ≡ true → (before || here || c) 
 one_of_two true here c h = refl
 one_of_two false true c h = refl
 one_of_two false false c h = absurd cc
-
-is_false : (b : Bool) → (b ≡ true → ⊥) → b ≡ false
-is_false true h = absurd (h refl)
-is_false false h = refl
 
 -- ---- the classes of opcodes
 
@@ -225,77 +221,65 @@ constant_64_spelled n lt =
 
 -- ---- loads, stores and operators, by their class
 
-load_spelled : (b : ℕ) (x : Instr) (rest : List ℕ) → is_load b ≡ true → (memory_argument (Load b)).Spells x rest → (plain (of_byte b)).Spells x rest
+-- what is left once the opcodes of the first instructions are told apart
+abbrev beyond : ℕ → Grammar Instr
+beyond b =
+    when is_load b form memory_argument (Load b) else
+    when is_store b form memory_argument (Store b) else
+    when b == 0x3F form zero_byte MemorySize else
+    when b == 0x40 form zero_byte MemoryGrow else
+    when b == 0x41 form constant_32 else
+    when b == 0x42 form constant_64 else
+    when b == 0xD0 form null_of else
+    when b == 0xD1 form gives RefIsNull else
+    when b == 0xD2 form one_index RefFunc else
+    when b == 0xFC form after_FC 0 else
+    gives (Num b)
+
+-- none of them is in a class of opcodes
+abbrev HasNone : (ℕ → Bool) → Type 0
+HasNone p =
+    (p 0x00 ≡ false) × (p 0x01 ≡ false) × (p 0x0C ≡ false) × (p 0x0D ≡ false) × (p 0x0E ≡ false) × (p 0x0F ≡ false)
+    × (p 0x10 ≡ false) × (p 0x11 ≡ false) × (p 0x1A ≡ false) × (p 0x1B ≡ false) × (p 0x1C ≡ false) × (p 0x20 ≡ false)
+    × (p 0x21 ≡ false) × (p 0x22 ≡ false) × (p 0x23 ≡ false) × (p 0x24 ≡ false) × (p 0x25 ≡ false) × (p 0x26 ≡ false)
+
+class_spelled : (p : ℕ → Bool) → HasNone p → (b : ℕ) (x : Instr) (rest : List ℕ) → p b ≡ true → (beyond b).Spells x rest → (plain (of_byte b)).Spells x rest
 unfolding plain
-load_spelled b x rest h s =
-    let skip : (k : ℕ) → is_load k ≡ false → (b == k) ≡ false = λ k other. apart is_load b k h other in
-    when_false (b == 0x00) _ _ x rest (skip 0x00 refl) (
-    when_false (b == 0x01) _ _ x rest (skip 0x01 refl) (
-    when_false (b == 0x0C) _ _ x rest (skip 0x0C refl) (
-    when_false (b == 0x0D) _ _ x rest (skip 0x0D refl) (
-    when_false (b == 0x0E) _ _ x rest (skip 0x0E refl) (
-    when_false (b == 0x0F) _ _ x rest (skip 0x0F refl) (
-    when_false (b == 0x10) _ _ x rest (skip 0x10 refl) (
-    when_false (b == 0x11) _ _ x rest (skip 0x11 refl) (
-    when_false (b == 0x1A) _ _ x rest (skip 0x1A refl) (
-    when_false (b == 0x1B) _ _ x rest (skip 0x1B refl) (
-    when_false (b == 0x1C) _ _ x rest (skip 0x1C refl) (
-    when_false (b == 0x20) _ _ x rest (skip 0x20 refl) (
-    when_false (b == 0x21) _ _ x rest (skip 0x21 refl) (
-    when_false (b == 0x22) _ _ x rest (skip 0x22 refl) (
-    when_false (b == 0x23) _ _ x rest (skip 0x23 refl) (
-    when_false (b == 0x24) _ _ x rest (skip 0x24 refl) (
-    when_false (b == 0x25) _ _ x rest (skip 0x25 refl) (
-    when_false (b == 0x26) _ _ x rest (skip 0x26 refl) (
-    when_true (is_load b) _ _ x rest h s))))))))))))))))))
+class_spelled p none b x rest h s =
+    let skip : (k : ℕ) → p k ≡ false → (b == k) ≡ false = λ k other. apart p b k h other in
+    when_false (b == 0x00) _ _ x rest (skip 0x00 none.0) (
+    when_false (b == 0x01) _ _ x rest (skip 0x01 none.1) (
+    when_false (b == 0x0C) _ _ x rest (skip 0x0C none.2) (
+    when_false (b == 0x0D) _ _ x rest (skip 0x0D none.3) (
+    when_false (b == 0x0E) _ _ x rest (skip 0x0E none.4) (
+    when_false (b == 0x0F) _ _ x rest (skip 0x0F none.5) (
+    when_false (b == 0x10) _ _ x rest (skip 0x10 none.6) (
+    when_false (b == 0x11) _ _ x rest (skip 0x11 none.7) (
+    when_false (b == 0x1A) _ _ x rest (skip 0x1A none.8) (
+    when_false (b == 0x1B) _ _ x rest (skip 0x1B none.9) (
+    when_false (b == 0x1C) _ _ x rest (skip 0x1C none.10) (
+    when_false (b == 0x20) _ _ x rest (skip 0x20 none.11) (
+    when_false (b == 0x21) _ _ x rest (skip 0x21 none.12) (
+    when_false (b == 0x22) _ _ x rest (skip 0x22 none.13) (
+    when_false (b == 0x23) _ _ x rest (skip 0x23 none.14) (
+    when_false (b == 0x24) _ _ x rest (skip 0x24 none.15) (
+    when_false (b == 0x25) _ _ x rest (skip 0x25 none.16) (
+    when_false (b == 0x26) _ _ x rest (skip 0x26 none.17) (
+    s))))))))))))))))))
+
+load_spelled : (b : ℕ) (x : Instr) (rest : List ℕ) → is_load b ≡ true → (memory_argument (Load b)).Spells x rest → (plain (of_byte b)).Spells x rest
+load_spelled b x rest h s = class_spelled is_load (refl, refl, refl, refl, refl, refl, refl, refl, refl, refl, refl, refl, refl, refl, refl, refl, refl, refl) b x rest h (when_true (is_load b) _ _ x rest h s)
 
 store_spelled : (b : ℕ) (x : Instr) (rest : List ℕ) → is_store b ≡ true → (memory_argument (Store b)).Spells x rest → (plain (of_byte b)).Spells x rest
-unfolding plain
 store_spelled b x rest h s =
-    let skip : (k : ℕ) → is_store k ≡ false → (b == k) ≡ false = λ k other. apart is_store b k h other in
-    when_false (b == 0x00) _ _ x rest (skip 0x00 refl) (
-    when_false (b == 0x01) _ _ x rest (skip 0x01 refl) (
-    when_false (b == 0x0C) _ _ x rest (skip 0x0C refl) (
-    when_false (b == 0x0D) _ _ x rest (skip 0x0D refl) (
-    when_false (b == 0x0E) _ _ x rest (skip 0x0E refl) (
-    when_false (b == 0x0F) _ _ x rest (skip 0x0F refl) (
-    when_false (b == 0x10) _ _ x rest (skip 0x10 refl) (
-    when_false (b == 0x11) _ _ x rest (skip 0x11 refl) (
-    when_false (b == 0x1A) _ _ x rest (skip 0x1A refl) (
-    when_false (b == 0x1B) _ _ x rest (skip 0x1B refl) (
-    when_false (b == 0x1C) _ _ x rest (skip 0x1C refl) (
-    when_false (b == 0x20) _ _ x rest (skip 0x20 refl) (
-    when_false (b == 0x21) _ _ x rest (skip 0x21 refl) (
-    when_false (b == 0x22) _ _ x rest (skip 0x22 refl) (
-    when_false (b == 0x23) _ _ x rest (skip 0x23 refl) (
-    when_false (b == 0x24) _ _ x rest (skip 0x24 refl) (
-    when_false (b == 0x25) _ _ x rest (skip 0x25 refl) (
-    when_false (b == 0x26) _ _ x rest (skip 0x26 refl) (
+    class_spelled is_store (refl, refl, refl, refl, refl, refl, refl, refl, refl, refl, refl, refl, refl, refl, refl, refl, refl, refl) b x rest h (
     when_false (is_load b) _ _ x rest (store_is_no_load b h) (
-    when_true (is_store b) _ _ x rest h s)))))))))))))))))))
+    when_true (is_store b) _ _ x rest h s))
 
 numeric_spelled : (b : ℕ) (x : Instr) (rest : List ℕ) → is_numeric b ≡ true → (gives {E = Fault} (Num b)).Spells x rest → (plain (of_byte b)).Spells x rest
-unfolding plain
 numeric_spelled b x rest h s =
     let skip : (k : ℕ) → is_numeric k ≡ false → (b == k) ≡ false = λ k other. apart is_numeric b k h other in
-    when_false (b == 0x00) _ _ x rest (skip 0x00 refl) (
-    when_false (b == 0x01) _ _ x rest (skip 0x01 refl) (
-    when_false (b == 0x0C) _ _ x rest (skip 0x0C refl) (
-    when_false (b == 0x0D) _ _ x rest (skip 0x0D refl) (
-    when_false (b == 0x0E) _ _ x rest (skip 0x0E refl) (
-    when_false (b == 0x0F) _ _ x rest (skip 0x0F refl) (
-    when_false (b == 0x10) _ _ x rest (skip 0x10 refl) (
-    when_false (b == 0x11) _ _ x rest (skip 0x11 refl) (
-    when_false (b == 0x1A) _ _ x rest (skip 0x1A refl) (
-    when_false (b == 0x1B) _ _ x rest (skip 0x1B refl) (
-    when_false (b == 0x1C) _ _ x rest (skip 0x1C refl) (
-    when_false (b == 0x20) _ _ x rest (skip 0x20 refl) (
-    when_false (b == 0x21) _ _ x rest (skip 0x21 refl) (
-    when_false (b == 0x22) _ _ x rest (skip 0x22 refl) (
-    when_false (b == 0x23) _ _ x rest (skip 0x23 refl) (
-    when_false (b == 0x24) _ _ x rest (skip 0x24 refl) (
-    when_false (b == 0x25) _ _ x rest (skip 0x25 refl) (
-    when_false (b == 0x26) _ _ x rest (skip 0x26 refl) (
+    class_spelled is_numeric (refl, refl, refl, refl, refl, refl, refl, refl, refl, refl, refl, refl, refl, refl, refl, refl, refl, refl) b x rest h (
     when_false (is_load b) _ _ x rest (numeric_is_no_load b h) (
     when_false (is_store b) _ _ x rest (numeric_is_no_store b h) (
     when_false (b == 0x3F) _ _ x rest (skip 0x3F refl) (
@@ -306,7 +290,7 @@ numeric_spelled b x rest h s =
     when_false (b == 0xD1) _ _ x rest (skip 0xD1 refl) (
     when_false (b == 0xD2) _ _ x rest (skip 0xD2 refl) (
     when_false (b == 0xFC) _ _ x rest (skip 0xFC refl) (
-    s))))))))))))))))))))))))))))
+    s)))))))))))
 
 -- ---- all instructions that hold no others
 

@@ -6,8 +6,7 @@ use Rattle.std.proofs.lemmas.Bool.{lt-ltb, ltb-false, eq-eqb}
 use Rattle.std.proofs.lemmas.List.{length-map}
 use Rattle.std.proofs.lemmas.List.Folds.{list_any_at}
 use Rattle.owi_base.specs.Leb.{unsigned_bytes}
-use Rattle.owi_base.specs.Forms.{any_byte, many}
-use Rattle.owi_base.proofs.SignedReading.{taken}
+use Rattle.grammar_forms.specs.Forms.{any_byte, many}
 use Rattle.wasm_ast.specs.Sections.{names_data, body_names_data, has_any, is_written}
 use Rattle.wasm_ast.specs.Shape.{IsShort, IsReference, ExprHasShape, ImportHasShape, FuncHasShape, ElemHasShape, SegmentHasShape, HasShape}
 use Rattle.wasm_ast.specs.declared.modules.Func.{Func}
@@ -17,17 +16,18 @@ use Rattle.wasm_binary.specs.Faults.{Fault, order, count}
 use Rattle.wasm_binary.specs.Values.{Grammar, u32, vec}
 use Rattle.wasm_binary.specs.Types.{func_type, limits, table_type}
 use Rattle.wasm_binary.specs.Locals.{Code, code}
-use Rattle.wasm_binary.specs.Parts.{import, global, export, elem, segment}
+use Rattle.wasm_binary.specs.SectionEntries.{import, global, export, elem, segment}
 use Rattle.wasm_binary.specs.Modules.{Sections, next_id, same_count, same_as_announced, custom, code_section, data_section, into, contents, section}
 use Rattle.wasm_write.specs.Values.{vec_bytes, sized}
 use Rattle.wasm_write.specs.Types.{func_type_bytes, limits_bytes, table_type_bytes}
-use Rattle.wasm_write.specs.Parts.{import_bytes, global_bytes, export_bytes, elem_bytes, segment_bytes, code_bytes}
+use Rattle.wasm_write.specs.SectionEntries.{import_bytes, global_bytes, export_bytes, elem_bytes, segment_bytes, code_bytes}
 use Rattle.wasm_write.specs.Modules as writing
-use Rattle.wasm_write.specs.Ranges.{IsU32, LimitsInRange, ExprInRange, ImportInRange, FuncInRange, ExportInRange, ModeInRange, ElemInRange, IsInRange}
+use Rattle.wasm_ast.specs.Ranges.{IsU32, LimitsInRange, ExprInRange, ImportInRange, FuncInRange, ExportInRange, ElemInRange, SegmentInRange, IsInRange}
 use Rattle.wasm_write.proofs.FormSpelled.{by_recursion, each_of, u32_spelled, many_spelled, vec_spelled, bytes_spelled, name_spelled, func_type_spelled, limits_spelled, table_type_spelled}
 use Rattle.wasm_write.proofs.SequencesSpelled.{IsCounted}
 use Rattle.wasm_write.proofs.LocalsSpelled.{code_of, entry_bytes, code_spelled}
-use Rattle.wasm_write.proofs.PartsSpelled.{import_spelled, global_spelled, export_spelled, elem_spelled, segment_spelled}
+use Rattle.wasm_write.proofs.SectionEntriesSpelled.{import_spelled, global_spelled, export_spelled, elem_spelled, segment_spelled}
+use Rattle.owi_base.proofs.Choices.{taken}
 
 -- ---- a section
 
@@ -341,7 +341,7 @@ data_step m shape range = record {
         rest,
         refl,
         (n, u32_spelled n shape.lists.segments, as_announced n (is_written m 10)),
-        many_spelled segment segment_bytes m.segments (each_of SegmentHasShape (λ x. ModeInRange x.mode) (λ x. segment.Spells x (segment_bytes x)) m.segments segment_spelled shape.segments range.segments),
+        many_spelled segment segment_bytes m.segments (each_of SegmentHasShape SegmentInRange (λ x. segment.Spells x (segment_bytes x)) m.segments segment_spelled shape.segments range.segments),
       ));
   not_written = λ is slot customs. ap (λ xs. let t : Sections = record (up_to m 11 slot customs) { segments = xs } in t) (sym (none_of m.segments is));
 }

@@ -5,7 +5,7 @@ use Rattle.std.specs.List.{flat_map, AllByRecursion as ByRecursion}
 use Rattle.std.proofs.lemmas.Bool.{eqb-true, ltb-true}
 use Rattle.std.proofs.lemmas.List.{drop_more, drop-drop, length-take-le, take_all}
 use Rattle.std.proofs.lemmas.Option.{slice_get-get_or}
-use Rattle.owi_base.specs.Forms.{◌>>=◌, checked}
+use Rattle.grammar_forms.specs.Forms.{◌>>=◌, checked}
 use Rattle.wasm_ast.specs.Sections.{names_data}
 use Rattle.wasm_ast.specs.Numbering.{after, names, named_by, AreEnds}
 use Rattle.wasm_ast.specs.Shape.{InstrHasShape, ExprHasShape}
@@ -18,7 +18,7 @@ use Rattle.wasm_binary.specs.Types.{block_type}
 use Rattle.wasm_binary.specs.Instructions.{Opcode, opcode, Around, is_opcode, allowed, Sequence, empty_sequence, all_of, WithInside, block_of, if_of, instruction, is_last, sequence_below, expression}
 use Rattle.wasm_write.specs.Types.{block_type_bytes}
 use Rattle.wasm_write.specs.Instructions.{else_part, instr_bytes, text_of, expr_bytes}
-use Rattle.wasm_write.specs.Ranges.{BlockTypeInRange, InstrInRange, ExprInRange}
+use Rattle.wasm_ast.specs.Ranges.{BlockTypeInRange, InstrInRange, ExprInRange}
 use Rattle.wasm_write.proofs.FormSpelled.{both_true, block_type_spelled}
 use Rattle.wasm_write.proofs.PlainSpelled.{when_false, of_byte, byte_spelled, IsPlainSpelled, DataIsCounted, plain_spelled}
 use Rattle.wasm_write.proofs.TextLaws.{AreTexts, are_texts}

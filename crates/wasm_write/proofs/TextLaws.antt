@@ -5,13 +5,13 @@ use Rattle.std.specs.List.{flat_map, AllByRecursion as ByRecursion}
 use Rattle.std.proofs.lemmas.Bool.{eq-eqb, ne_eqb}
 use Rattle.std.proofs.lemmas.List.{drop_more}
 use Rattle.std.proofs.lemmas.Option.{slice_get-get_or}
-use Rattle.owi_base.proofs.SignedReading.{taken, passed}
 use Rattle.wasm_ast.specs.Numbering.{named_by, IsNumbered}
 use Rattle.wasm_ast.specs.declared.instructions.Instr.{Instr}
 use Rattle.wasm_ast.specs.declared.instructions.Instr.TheVariants.{Block, Loop, If}
 use Rattle.wasm_ast.proofs.InnerSequences.{inner}
 use Rattle.wasm_write.specs.Types.{block_type_bytes}
 use Rattle.wasm_write.specs.Instructions.{else_part, instr_bytes, text_of}
+use Rattle.owi_base.proofs.Choices.{taken, passed}
 
 pub record AreTexts (seqs : List (List Instr)) (text : ℕ → List ℕ) : Type 0 where
   pub each : (j : ℕ) → j < length seqs → text j ≡ flat_map (instr_bytes text) (get_or seqs j [])

@@ -1,8 +1,7 @@
 pub mod Examples
 pub mod Instructions
 pub mod Modules
-pub mod Parts
-pub mod Ranges
+pub mod SectionEntries
 pub mod Types
 pub mod Values
 pub mod Writing

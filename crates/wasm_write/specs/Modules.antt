@@ -7,7 +7,7 @@ use Rattle.wasm_ast.specs.declared.modules.Custom.{Custom}
 use Rattle.wasm_ast.specs.declared.modules.Module.{Module}
 use Rattle.wasm_write.specs.Values.{vec_bytes, sized}
 use Rattle.wasm_write.specs.Types.{func_type_bytes, table_type_bytes, limits_bytes}
-use Rattle.wasm_write.specs.Parts.{import_bytes, global_bytes, export_bytes, elem_bytes, segment_bytes, code_bytes}
+use Rattle.wasm_write.specs.SectionEntries.{import_bytes, global_bytes, export_bytes, elem_bytes, segment_bytes, code_bytes}
 
 -- ---- sections
 

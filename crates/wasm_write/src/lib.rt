@@ -12,16 +12,15 @@ ghost use Rattle.wasm_write.specs.Modules.{shortest, sections, first_long};
 mod expressions;
 mod instructions;
 pub mod laws;
-mod parts;
-pub mod ranges;
+mod section_entries;
 mod sections;
 mod types;
 mod values;
 
-use ranges::is_in_range;
 use sections::put_sections;
 use std::alloc::{AllocError, Global};
 use wasm_ast::Module;
+use wasm_ast::ranges::is_in_range;
 
 /// Why a module isn't written.
 #[derive(Clone, Copy, Debug, PartialEq, Eq)]

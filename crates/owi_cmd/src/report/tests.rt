@@ -1,4 +1,4 @@
-use crate::report::{Bounds, Head, Kind, Row, is_found, put_name, report_text};
+use crate::report::{Bounds, Head, Kind, Row, is_found, report_text};
 use std::alloc::{AllocError, Global};
 use std::test::Fail;
 use wasm_ast::{Cause, Draw, List, Text, Value};
@@ -49,27 +49,6 @@ fn ended_rows(alloc: Global) -> Result<Vec<Row>, AllocError> {
     Ok(rows)
 }
 
-fn name_line(alloc: Global, name: &str) -> Result<String, AllocError> {
-    let name = Text::new(String::from_str(alloc, name)?);
-    let mut line = String::new(alloc);
-    put_name(&mut line, &name)?;
-    Ok(line)
-}
-
-#[test]
-fn one_path(rt: HostRuntime) -> Result<(), Fail> {
-    let alloc = rt.alloc();
-    let five = Kind::Returns(list(alloc, &[Value::I32(5)])?);
-    let rows = vec![in alloc; row(alloc, &[], five, &[])?]?;
-    let text = report_text(alloc, &head(alloc, "f", &[])?, rows.as_slice())?;
-    let want = b"owi report 1\n\
-        export f args - steps 1000 forks 8 conflicts 100000\n\
-        path - returns i32:5 input -\n\
-        paths 1 found 0\n";
-    assert_eq!(rt; text.as_slice(), want.as_slice());
-    Ok(())
-}
-
 #[test]
 fn many_paths(rt: HostRuntime) -> Result<(), Fail> {
     let alloc = rt.alloc();
@@ -88,20 +67,5 @@ fn many_paths(rt: HostRuntime) -> Result<(), Fail> {
         paths 6 found 2\n";
     assert_eq!(rt; text.as_slice(), want.as_slice());
     assert_eq!(rt; rows.iter().filter(|row| is_found(row)).count(), 2);
-    Ok(())
-}
-
-#[test]
-fn names(rt: HostRuntime) -> Result<(), Fail> {
-    let alloc = rt.alloc();
-    for (name, want) in [
-        ("", "-"),
-        ("-", "\\2d"),
-        ("--", "--"),
-        ("~!\u{7f}", "~!\\7f"),
-        ("\n", "\\0a"),
-    ] {
-        assert_eq!(rt; name_line(alloc, name)?.as_str(), want);
-    }
     Ok(())
 }

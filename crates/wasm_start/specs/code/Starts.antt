@@ -2,39 +2,24 @@
 use Rattle.std.specs.Prelude.{◌≡◌, ℕ, ◌<◌, List, [], Bool, false, map, length, MatchOption, Option, Some, None, Result, Ok, Err}
 use Rattle.std.specs.List.{AllByRecursion}
 use Rattle.wasm_ast.specs.declared.modules.Module.{Module}
-use Rattle.wasm_reduction.specs.Configurations.{Value, Store}
+use Rattle.wasm_reduction.specs.Configurations.{Store}
 use Rattle.wasm_ast.specs.declared.runs.Value.{Value as Argument}
-use Rattle.wasm_ast.specs.declared.runs.Value.TheVariants.{I32 as I32Argument, I64 as I64Argument, Func as FuncArgument, Extern as ExternArgument}
-use Rattle.wasm_reduction.specs.Instantiation.{Instantiated, instantiated}
+use Rattle.wasm_reduction.specs.Instantiation.{Instantiated, instantiated, argument}
 use Rattle.wasm_machine.specs.declared.machine.Frame.{Frame as CodeFrame}
 use Rattle.wasm_machine.specs.declared.values.Reference.{Reference as CodeReference}
-use Rattle.wasm_machine.specs.declared.values.Reference.TheVariants.{Func as FuncReference, Extern as ExternReference}
-use Rattle.wasm_machine.specs.declared.values.Value.{Value as CodeValue}
-use Rattle.wasm_machine.specs.declared.values.Value.TheVariants.{I32 as CodeI32, I64 as CodeI64, Ref as CodeRef}
 use Rattle.wasm_start.specs.declared.allocation.Stop.{Stop}
 use Rattle.wasm_machine.specs.Configurations.{datas_of}
 use Rattle.wasm_machine.specs.States.{State}
-use Rattle.wasm_machine.specs.Values.{reference, value}
+use Rattle.wasm_machine.specs.Values.{reference}
 use Rattle.wasm_start.specs.Starts.{stop_of}
-
--- a value whose word is a number
-abbrev pub plain : CodeValue ℕ → Value ℕ
-plain v = value (λ n. n) v
-
--- an argument as a plain value
-abbrev pub argument_value : Argument → CodeValue ℕ
-argument_value (I32Argument n) = CodeI32 n
-argument_value (I64Argument n) = CodeI64 n
-argument_value (FuncArgument f) = CodeRef (FuncReference f)
-argument_value ExternArgument = CodeRef ExternReference
 
 -- what is told is what the definition gives, where there is something
 abbrev pub Represents : {A B : Type 0} → (A → B) → Option B → Option A → Type 0
 Represents f given told = MatchOption told (given ≡ None) (λ x. given ≡ Some (f x))
 
--- a module's store but for its memory, on numbers
+-- a module's store but for its memory, on plain values
 pub record PlainStore : Type 0 where
-  pub globals : List (CodeValue ℕ)
+  pub globals : List Argument
   pub tables : List (List CodeReference)
   pub elems : List (List CodeReference)
   pub dropped : List Bool
@@ -47,7 +32,7 @@ pub record HasSegments (m : Module) (p : PlainStore) : Type 0 where
 -- the store that the parts stand for, with these bytes of memory
 abbrev pub store_with : Module → List ℕ → PlainStore → Store ℕ
 store_with m bytes p = record {
-  globals = map plain p.globals;
+  globals = map argument p.globals;
   tables = map (λ t. map reference t) p.tables;
   memory = bytes;
   elems = map (λ t. map reference t) p.elems;

@@ -8,7 +8,7 @@ use Rattle.refute_check.proofs.checker.accept.Goals as goal
 pub invariant_of-result : goal.invariant_of-result
 invariant_of-result c =
     let here : IsAccepted c.args.cnf.clauses c.args.log = rw (c.as_slice.ensures, c.as_slice-2.ensures) at c.in-Ok.ensures.accepted in
-    record { refuted = accepted_refutes _ _ here }
+    record { accepted = ∣ here ∣₁; refuted = accepted_refutes _ _ here }
 
 pub returns-in-Ok-clause-refuses : goal.returns-in-Ok-clause-refuses
 returns-in-Ok-clause-refuses c = λ number refused.

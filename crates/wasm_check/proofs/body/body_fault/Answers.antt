@@ -1,5 +1,5 @@
 use Rattle.wasm_check.proofs.Verdicts.{found}
-use Rattle.wasm_check.specs.Kept.{context}
+use Rattle.wasm_check.specs.code.Kept.{context}
 use Rattle.wasm_check.proofs.body.body_fault.Goals as goal
 
 pub returns : goal.returns

@@ -1,9 +1,9 @@
 use Rattle.std.proofs.Common.{reverse, sym, subst}
-use Rattle.wasm_check.specs.Checker.{start_of}
-use Rattle.wasm_check.specs.Progress.{HasCome}
-use Rattle.wasm_check.specs.Runs.{open_seqs}
+use Rattle.wasm_check.specs.code.Checker.{start_of}
+use Rattle.wasm_check.specs.code.Progress.{HasCome}
+use Rattle.wasm_check.specs.code.Runs.{open_seqs}
 use Rattle.wasm_check.proofs.Verdicts.{come-start, come-on, come-fault, Reads}
-use Rattle.wasm_check.specs.Kept.{context}
+use Rattle.wasm_check.specs.code.Kept.{context}
 use Rattle.wasm_check.proofs.body.find_fault.Goals as goal
 
 pub loop-at-init : goal.loop-at-init

@@ -1,7 +1,7 @@
 use Rattle.std.proofs.Common.{reverse}
-use Rattle.wasm_check.specs.Progress.{HasCome}
-use Rattle.wasm_check.specs.Kept.{context}
-use Rattle.wasm_check.specs.Runs.{open_seqs}
+use Rattle.wasm_check.specs.code.Progress.{HasCome}
+use Rattle.wasm_check.specs.code.Kept.{context}
+use Rattle.wasm_check.specs.code.Runs.{open_seqs}
 use Rattle.wasm_check.proofs.body.find_fault.Given as goal
 
 abbrev pub invariant-loop-at : goal.invariant-loop-at

@@ -1,7 +1,7 @@
 use Rattle.std.proofs.Common.{subst}
-use Rattle.wasm_check.specs.Runs.{known, labels_in}
-use Rattle.wasm_check.specs.Checker.{Answers, acts}
-use Rattle.wasm_check.specs.Kept.{context}
+use Rattle.wasm_check.specs.code.Runs.{known, labels_in}
+use Rattle.wasm_check.specs.code.Checker.{Answers, acts}
+use Rattle.wasm_check.specs.code.Kept.{context}
 use Rattle.wasm_check.proofs.OpenLemmas.{plain-not, plain-goes}
 use Rattle.wasm_check.proofs.body.plain.Goals as goal
 

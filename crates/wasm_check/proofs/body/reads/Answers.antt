@@ -1,5 +1,5 @@
-use Rattle.wasm_check.specs.Runs.{open_seqs}
-use Rattle.wasm_check.specs.Kept.{context}
+use Rattle.wasm_check.specs.code.Runs.{open_seqs}
+use Rattle.wasm_check.specs.code.Kept.{context}
 use Rattle.wasm_check.proofs.RunLemmas.{none-left}
 use Rattle.wasm_check.proofs.OpenLemmas.{reads-none, reads-some}
 use Rattle.wasm_check.proofs.body.reads.Goals as goal

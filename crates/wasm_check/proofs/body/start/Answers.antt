@@ -1,4 +1,4 @@
-use Rattle.wasm_check.specs.Kept.{context}
+use Rattle.wasm_check.specs.code.Kept.{context}
 use Rattle.wasm_check.proofs.OpenLemmas.{started}
 use Rattle.wasm_check.proofs.body.start.Goals as goal
 

@@ -1,7 +1,7 @@
 use Rattle.std.proofs.Common.{take}
 use Rattle.std.specs.List.{list_any}
 use Rattle.wasm_check.specs.Contexts.{is_ref_of}
-use Rattle.wasm_check.specs.Spaces.{Marks}
+use Rattle.wasm_check.specs.code.Sections.{Marks}
 use Rattle.wasm_check.proofs.declared.mark_instrs.Given as goal
 
 abbrev pub invariant-loop-instr : goal.invariant-loop-instr

@@ -1,6 +1,6 @@
 use Rattle.std.proofs.Common.{◌∙◌, ap}
 use Rattle.wasm_check.specs.Contexts.{locals_of}
-use Rattle.wasm_check.specs.Kept.{context}
+use Rattle.wasm_check.specs.code.Kept.{context}
 use Rattle.wasm_check.proofs.ContextLemmas.{context-of, found-of}
 use Rattle.wasm_check.proofs.functions.func_fault.Goals as goal
 

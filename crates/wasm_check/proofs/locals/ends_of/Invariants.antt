@@ -1,6 +1,6 @@
 use Rattle.std.proofs.Common.{◌≡◌, take}
 use Rattle.std.specs.Prelude.{sum_by}
-use Rattle.wasm_check.specs.Spaces.{AreEnds}
+use Rattle.wasm_check.specs.code.Sections.{AreEnds}
 use Rattle.wasm_check.proofs.locals.ends_of.Given as goal
 
 abbrev pub invariant-loop-group : goal.invariant-loop-group

@@ -1,6 +1,6 @@
 use Rattle.std.proofs.Common.{refl}
-use Rattle.wasm_check.specs.Lists.{listed}
-use Rattle.wasm_check.specs.Runs.{known, peeked}
+use Rattle.type_suffixes.specs.Lists.{listed}
+use Rattle.wasm_check.specs.code.Runs.{known, peeked}
 use Rattle.wasm_check.proofs.Carrying.{take-answers}
 use Rattle.wasm_check.proofs.open.can_take.Goals as goal
 

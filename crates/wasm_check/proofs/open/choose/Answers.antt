@@ -1,9 +1,9 @@
 use Rattle.std.proofs.Common.{subst}
 use Rattle.std.specs.Prelude.{true, false}
-use Rattle.wasm_check.specs.Lists.{listed}
-use Rattle.wasm_check.specs.Runs.{known, peeked, labels_in}
-use Rattle.wasm_check.specs.Checker.{SomeBy, each_fits}
-use Rattle.wasm_check.specs.Carried.{CanTake}
+use Rattle.type_suffixes.specs.Lists.{listed}
+use Rattle.wasm_check.specs.code.Runs.{known, peeked, labels_in}
+use Rattle.wasm_check.specs.code.Checker.{SomeBy, each_fits}
+use Rattle.wasm_check.specs.code.Carried.{CanTake}
 use Rattle.wasm_check.proofs.Carrying.{take-answers, table-refused, table-stops, table-goes}
 use Rattle.wasm_check.proofs.open.choose.Goals as goal
 

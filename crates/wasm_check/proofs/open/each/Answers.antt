@@ -1,7 +1,7 @@
 use Rattle.std.proofs.Common.{◌∙◌, get_or, refl, subst}
-use Rattle.wasm_check.specs.Carried.{CanCarry}
-use Rattle.wasm_check.specs.Lists.{listed}
-use Rattle.wasm_check.specs.Runs.{known, labels_in}
+use Rattle.wasm_check.specs.code.Carried.{CanCarry}
+use Rattle.type_suffixes.specs.Lists.{listed}
+use Rattle.wasm_check.specs.code.Runs.{known, labels_in}
 use Rattle.wasm_check.proofs.Carrying.{none-seen, each-stops, each-on}
 use Rattle.wasm_check.proofs.open.each.Goals as goal
 

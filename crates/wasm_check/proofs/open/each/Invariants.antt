@@ -1,8 +1,8 @@
 use Rattle.std.proofs.Common.{◌≡◌, drop}
-use Rattle.wasm_check.specs.Checker.{each_fits}
-use Rattle.wasm_check.specs.Carried.{SeenPass}
-use Rattle.wasm_check.specs.Lists.{listed}
-use Rattle.wasm_check.specs.Runs.{known, labels_in}
+use Rattle.wasm_check.specs.code.Checker.{each_fits}
+use Rattle.wasm_check.specs.code.Carried.{SeenPass}
+use Rattle.type_suffixes.specs.Lists.{listed}
+use Rattle.wasm_check.specs.code.Runs.{known, labels_in}
 use Rattle.wasm_check.proofs.open.each.Given as goal
 
 -- what the labels so far don't decide is left to the others, and what was seen can be carried

@@ -1,5 +1,5 @@
 use Rattle.std.proofs.Common.{subst}
-use Rattle.wasm_check.specs.Runs.{open_seqs}
+use Rattle.wasm_check.specs.code.Runs.{open_seqs}
 use Rattle.wasm_check.proofs.RunLemmas.{none-left}
 use Rattle.wasm_check.proofs.OpenLemmas.{OtherMayEnd, ends-unfinished, ends-half, ends-last, ends-goes}
 use Rattle.wasm_check.proofs.open.ends.Goals as goal

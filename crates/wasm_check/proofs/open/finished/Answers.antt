@@ -1,5 +1,5 @@
-use Rattle.wasm_check.specs.Lists.{listed}
-use Rattle.wasm_check.specs.Runs.{known, peeked}
+use Rattle.type_suffixes.specs.Lists.{listed}
+use Rattle.wasm_check.specs.code.Runs.{known, peeked}
 use Rattle.wasm_check.proofs.OpenLemmas.{ends-not, ends-as}
 use Rattle.wasm_check.proofs.open.finished.Goals as goal
 

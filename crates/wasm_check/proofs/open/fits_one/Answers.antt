@@ -1,6 +1,6 @@
 use Rattle.std.proofs.Common.{◌≡◌, length, sym, ap, ◌∙◌}
-use Rattle.wasm_check.specs.Lists.{listed}
-use Rattle.wasm_check.specs.Runs.{known, labels_in}
+use Rattle.type_suffixes.specs.Lists.{listed}
+use Rattle.wasm_check.specs.code.Runs.{known, labels_in}
 use Rattle.wasm_check.proofs.Carrying.{is-not-there, was-seen, has-other-count, is-refused, seen-more}
 use Rattle.wasm_check.proofs.open.fits_one.Goals as goal
 

@@ -1,9 +1,9 @@
 use Rattle.std.specs.Prelude.{false}
 use Rattle.wasm_check.specs.Operands.{operands}
 use Rattle.wasm_check.specs.Operators.{arrow}
-use Rattle.wasm_check.specs.Lists.{listed}
-use Rattle.wasm_check.specs.Runs.{open_seqs}
-use Rattle.wasm_check.specs.Checker.{opened}
+use Rattle.type_suffixes.specs.Lists.{listed}
+use Rattle.wasm_check.specs.code.Runs.{open_seqs}
+use Rattle.wasm_check.specs.code.Checker.{opened}
 use Rattle.wasm_check.proofs.OpenLemmas.{opens-not, opens-goes}
 use Rattle.wasm_check.proofs.open.opens.Goals as goal
 

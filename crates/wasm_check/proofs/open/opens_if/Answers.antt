@@ -3,9 +3,9 @@ use Rattle.wasm_ast.specs.declared.types.ValType.TheVariants.{I32}
 use Rattle.wasm_check.specs.declared.operands.Operand.TheVariants.{Of}
 use Rattle.wasm_check.specs.Operands.{operands}
 use Rattle.wasm_check.specs.Operators.{arrow}
-use Rattle.wasm_check.specs.Lists.{listed}
-use Rattle.wasm_check.specs.Runs.{known, open_seqs}
-use Rattle.wasm_check.specs.Checker.{opened}
+use Rattle.type_suffixes.specs.Lists.{listed}
+use Rattle.wasm_check.specs.code.Runs.{known, open_seqs}
+use Rattle.wasm_check.specs.code.Checker.{opened}
 use Rattle.wasm_check.proofs.OpenLemmas.{opens-not, opens-goes, first-not, first-taken}
 use Rattle.wasm_check.proofs.open.opens_if.Goals as goal
 

@@ -1,4 +1,4 @@
-use Rattle.wasm_check.specs.Runs.{open_seqs}
+use Rattle.wasm_check.specs.code.Runs.{open_seqs}
 use Rattle.wasm_check.proofs.OpenLemmas.{turns-not, turns-unfinished, turns-goes}
 use Rattle.wasm_check.proofs.open.turns.Goals as goal
 

@@ -1,8 +1,8 @@
 use Rattle.std.proofs.Common.{◌∙◌, sym, ap, subst}
 use Rattle.wasm_ast.specs.declared.instructions.Instr.TheVariants.{BrTable, SelectTyped}
-use Rattle.wasm_check.specs.Checker.{Answers, acts}
-use Rattle.wasm_check.specs.Runs.{known, labels_in}
-use Rattle.wasm_check.specs.Kept.{context}
+use Rattle.wasm_check.specs.code.Checker.{Answers, acts}
+use Rattle.wasm_check.specs.code.Runs.{known, labels_in}
+use Rattle.wasm_check.specs.code.Kept.{context}
 use Rattle.wasm_check.proofs.plain.acts.Goals as goal
 
 pub returns-in_ok-choose-in-BrTable : goal.returns-in_ok-choose-in-BrTable

@@ -1,7 +1,7 @@
 use Rattle.std.proofs.Common.{◌++◌, length, min, refl, ap, ◌∙◌}
 use Rattle.wasm_check.specs.declared.stack.Run.TheVariants.{First}
-use Rattle.wasm_check.specs.Runs.{run_of}
-use Rattle.wasm_check.specs.Checker.{popped}
+use Rattle.wasm_check.specs.code.Runs.{run_of}
+use Rattle.wasm_check.specs.code.Checker.{popped}
 use Rattle.wasm_check.proofs.RunLemmas.{run-is-cut, run-is-taken}
 use Rattle.wasm_check.proofs.stack.meet.Goals as goal
 

@@ -1,5 +1,5 @@
 use Rattle.std.proofs.Common.{◌≡◌, ◌≤◌, ◌-◌, length}
-use Rattle.owi_base.specs.Forms.{many}
+use Rattle.grammar_forms.specs.Forms.{many}
 use Rattle.wasm_read.proofs.EntryLaws.{put_before}
 use Rattle.wasm_read.proofs.entries_by.read_many_by.Given as goal
 

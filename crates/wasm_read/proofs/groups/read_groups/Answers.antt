@@ -14,10 +14,10 @@ loop-init c =
     let start = groups_start c.args.count w c.args.start ∙ ap (λ (done : List Group). put_ahead done ((groups (c.args.count - 0) 0).read w c.args.start)) none in
     (c.requires, omega arith, subst (AreAtMost 0) none (none_at_most 0), start)
 
-pub returns-in_err-group-clause-tells : goal.returns-in_err-group-clause-tells
-returns-in_err-group-clause-tells c =
+pub returns-in_err-group-clause-agrees : goal.returns-in_err-group-clause-agrees
+returns-in_err-group-clause-agrees c =
     let w = c.args.view.now in
-    let told = told_of_groups c.args.count c.loop.counter c.loop.sum w c.loop.at c.loop.joined ((joined_groups c.args.count).read w c.args.start) (fault_of c.in_err-group.field-0.0) c.loop-test.true c.loop.invariant.3 c.in_err-group.ensures.tells in
+    let told = told_of_groups c.args.count c.loop.counter c.loop.sum w c.loop.at c.loop.joined ((joined_groups c.args.count).read w c.args.start) (fault_of c.in_err-group.field-0.0) c.loop-test.true c.loop.invariant.3 c.in_err-group.ensures.agrees in
     let p = err_from_is_err_and c.from_residual.result c.from_residual.ensures.1 in
     rw (p.1, p.2) told
 
@@ -32,7 +32,7 @@ loop-preserved c =
     let at_most : AreAtMost (c.loop.sum + g.count) c.put.new.self = subst (AreAtMost (c.loop.sum + g.count)) put (group_at_most c.loop.sum g c.loop.joined c.loop.invariant.2) in
     let read =
     c.loop.invariant.3
-    ∙ group_read c.args.count c.loop.counter c.loop.sum w c.loop.at mid g c.loop.joined c.loop-test.true c.in_ok-group.ensures.tells
+    ∙ group_read c.args.count c.loop.counter c.loop.sum w c.loop.at mid g c.loop.joined c.loop-test.true c.in_ok-group.ensures.agrees
     ∙ ap (λ (done : List Group). put_ahead done ((groups left (c.loop.sum + g.count)).read w mid)) put
     ∙ ap (λ k. put_ahead c.put.new.self ((groups left (c.loop.sum + k)).read w mid)) widened in
     (c.in_ok-group.ensures.within, omega (arith, c.in_ok-group.ensures.few, c.from-sum.ensures), subst (λ k. AreAtMost (c.loop.sum + k) c.put.new.self) widened at_most, read)

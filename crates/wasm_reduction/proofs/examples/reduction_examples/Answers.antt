@@ -1,3 +1,4 @@
+use Rattle.wasm_reduction.proofs.ScriptExampleRuns.{script_examples}
 use Rattle.wasm_reduction.proofs.ExampleRuns.{numeric_examples, parametric_examples, control_examples, table_examples, memory_examples, instantiation_examples, host_examples}
 use Rattle.wasm_reduction.proofs.examples.reduction_examples.Goals as goal
 
@@ -21,3 +22,6 @@ returns-clause-instantiation c = instantiation_examples
 
 pub returns-clause-hosts : goal.returns-clause-hosts
 returns-clause-hosts c = host_examples
+
+pub returns-clause-scripts : goal.returns-clause-scripts
+returns-clause-scripts c = script_examples

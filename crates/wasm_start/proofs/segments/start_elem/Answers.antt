@@ -17,5 +17,5 @@ returns-in-Declared-clause-writes c = λ m b.
     (elem_dropped m b p c.args.k ∙ ap (λ es. Ok (store_with m b (record p { elems = es }))) (sym set))
     )
 
-pub returns-in-Active-clause-writes : goal.returns-in-Active-clause-writes
-returns-in-Active-clause-writes c = λ m b. rw c.in-Active.is (c.write_elem.ensures.writes m b)
+pub returns-in_ok-write_elem-in-Active-clause-writes : goal.returns-in_ok-write_elem-in-Active-clause-writes
+returns-in_ok-write_elem-in-Active-clause-writes c = λ m b. rw c.in-Active.is (c.in_ok-write_elem-in-Active.ensures.writes m b)

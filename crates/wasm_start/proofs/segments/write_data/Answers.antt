@@ -3,9 +3,9 @@ use Rattle.std.specs.Prelude.{slice_get, slice_set}
 use Rattle.std.proofs.lemmas.List.Elements.{recursion_from_All}
 use Rattle.wasm_ast.specs.declared.modules.Mode.TheVariants.{Active}
 use Rattle.wasm_reduction.specs.Combinators.{written}
-use Rattle.wasm_reduction.specs.Instantiation.{offset_in, start_data}
+use Rattle.wasm_reduction.specs.Instantiation.{argument, offset_in, start_data}
 use Rattle.wasm_machine.specs.Configurations.{datas_of}
-use Rattle.wasm_start.specs.code.Starts.{plain, PlainStore, store_with}
+use Rattle.wasm_start.specs.code.Starts.{PlainStore, store_with}
 use Rattle.wasm_start.proofs.SegmentLemmas.{data_writes, written_cells, written_bytes, cells_count, test_from}
 use Rattle.wasm_start.proofs.segments.write_data.Goals as goal
 
@@ -13,7 +13,7 @@ pub returns-clause-writes : goal.returns-clause-writes
 returns-clause-writes g c = λ x b cells bytes.
     let p : PlainStore = record { globals = c.p.inside.globals.items; tables = map (λ t. t.items) c.p.inside.tables.items; elems = map (λ t. t.items) c.p.inside.elems.items; dropped = c.p.inside.dropped.items } in
     let contents : List ℕ = c.data_of-bytes.result.now in
-    let at : offset_in (map plain p.globals) c.args.offset.now ≡ Some c.in-Some.place = rw c.as_slice.ensures.value at (sym c.in-Some.ensures) in
+    let at : offset_in (map argument p.globals) c.args.offset.now ≡ Some c.in-Some.place = rw c.as_slice.ensures.value at (sym (rw c.in-Some.is at c.in_ok-place.ensures)) in
     let held : slice_get (datas_of p.dropped c.args.m.now.segments) c.args.k ≡ Some contents = rw c.as_slice-2.ensures.value at c.data_of-bytes.ensures in
     let new : List ℕ = written c.in-Some.place contents b in (
       new,

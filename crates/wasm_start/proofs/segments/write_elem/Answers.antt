@@ -6,9 +6,9 @@ use Rattle.wasm_ast.specs.declared.modules.Mode.TheVariants.{Active}
 use Rattle.wasm_ast.specs.declared.runs.Cause.TheVariants.{Table}
 use Rattle.wasm_reduction.specs.Combinators.{written}
 use Rattle.wasm_reduction.specs.Configurations.{Traps}
-use Rattle.wasm_reduction.specs.Instantiation.{offset_in, start_elem}
+use Rattle.wasm_reduction.specs.Instantiation.{argument, offset_in, start_elem}
 use Rattle.wasm_machine.specs.declared.values.Reference.{Reference}
-use Rattle.wasm_start.specs.code.Starts.{plain, PlainStore, store_with}
+use Rattle.wasm_start.specs.code.Starts.{PlainStore, store_with}
 use Rattle.wasm_start.proofs.StartLemmas.{get_map, set_map, long_map}
 use Rattle.wasm_start.proofs.SegmentLemmas.{elem_traps, elem_writes, get_of, same_at, test_from, long_written, items_are}
 use Rattle.wasm_start.proofs.segments.write_elem.Goals as goal
@@ -17,7 +17,7 @@ pub returns-then-passes-clause-writes : goal.returns-then-passes-clause-writes
 returns-then-passes-clause-writes c = λ m b.
     let p : PlainStore = record { globals = c.p.inside.globals.items; tables = map (λ t. t.items) c.p.inside.tables.items; elems = map (λ t. t.items) c.p.inside.elems.items; dropped = c.p.inside.dropped.items } in
     let within : c.args.k < length c.p.inside.elems.items = omega (arith, c.requires, ap (λ q. length q.elems) c.p.view_is, long_map (λ t. t.items) c.p.inside.elems.items) in
-    let at : offset_in (map plain p.globals) c.args.offset.now ≡ Some c.in-Some.place = rw c.as_slice.ensures.value at (sym c.in-Some.ensures) in
+    let at : offset_in (map argument p.globals) c.args.offset.now ≡ Some c.in-Some.place = rw c.as_slice.ensures.value at (sym (rw c.in-Some.is at c.in_ok-place.ensures)) in
     let there : slice_get p.tables c.args.x ≡ Some c.index-2.result.now.items = get_map (λ t. t.items) c.p.inside.tables.items c.args.x c.index-2.result.now (get_of c.p.inside.tables.items c.args.x c.index-2.result.now (omega arith) c.index-2.ensures) in
     let held : slice_get p.elems c.args.k ≡ Some c.index.result.now.items = get_map (λ t. t.items) c.p.inside.elems.items c.args.k c.index.result.now (get_of c.p.inside.elems.items c.args.k c.index.result.now within c.index.ensures) in
     subst (λ q. start_elem c.args.k (Active c.args.x c.args.offset.now) (store_with m b q) ≡ Err (Traps Table)) c.p.view_is
@@ -32,7 +32,7 @@ returns-clause-writes c = λ m b.
     let references : List Reference = c.index-3.result.now.items in
     let within : c.args.k < length c.p.inside.elems.items = omega (arith, c.requires, ap (λ q. length q.elems) c.p.view_is, long_map (λ t. t.items) c.p.inside.elems.items) in
     let inside : c.args.x < length c.p.inside.tables.items = omega arith in
-    let at : offset_in (map plain p.globals) c.args.offset.now ≡ Some c.in-Some.place = rw c.as_slice.ensures.value at (sym c.in-Some.ensures) in
+    let at : offset_in (map argument p.globals) c.args.offset.now ≡ Some c.in-Some.place = rw c.as_slice.ensures.value at (sym (rw c.in-Some.is at c.in_ok-place.ensures)) in
     let there : slice_get p.tables c.args.x ≡ Some table = get_map (λ t. t.items) c.p.inside.tables.items c.args.x c.index_mut.result.now (get_of c.p.inside.tables.items c.args.x c.index_mut.result.now inside c.index_mut.ensures.value) in
     let held : slice_get p.elems c.args.k ≡ Some references = get_map (λ t. t.items) c.p.inside.elems.items c.args.k c.index-3.result.now (get_of c.p.inside.elems.items c.args.k c.index-3.result.now within c.index-3.ensures) in
     let one_table : c.index-2.result.now ≡ c.index_mut.result.now = same_at c.p.inside.tables.items c.args.x c.index-2.result.now c.index_mut.result.now inside c.index-2.ensures c.index_mut.ensures.value in

@@ -1,8 +1,9 @@
-use Rattle.bv_terms.proofs.FindLemmas.{Reaches, steps_of}
+use Rattle.std.proofs.Common.{map, drop}
+use Rattle.std.specs.Arc.{arc_value}
+use Rattle.bv_terms.specs.Index.{all_forms, form_of}
+use Rattle.bv_terms.proofs.IndexLemmas.{Sought}
 use Rattle.bv_terms.proofs.forms.Forms.find.Given as goal
 
-abbrev pub invariant-loop-place : goal.invariant-loop-place
-invariant-loop-place l = Reaches l.self-inside.nodes.items l.form l.place
-
-abbrev pub decreases-loop-place : goal.decreases-loop-place
-decreases-loop-place l = steps_of l.place
+abbrev pub invariant-loop-k : goal.invariant-loop-k
+invariant-loop-k l =
+    Sought (all_forms (map (λ s. arc_value s) l.self-inside.full.items) l.self-inside.own) (all_forms (map (λ s. arc_value s) (drop l.k l.self-inside.full.items)) l.self-inside.own) l.start (form_of l.key)

@@ -1,21 +1,29 @@
-use Rattle.std.proofs.Common.{◌≡◌, Some, ℕ, ap, sym, ◌∙◌, subst, length, cond, arith}
-use Rattle.std.specs.Prelude.{nat_eq}
-use Rattle.std.specs.HashMap.{get, Updates}
-use Rattle.bv_terms.specs.declared.forms.Node.{Node}
-use Rattle.bv_terms.specs.Index.{form_code, IsLinked}
-use Rattle.bv_terms.proofs.FindLemmas.{linked-push, where_ok}
+use Rattle.std.proofs.Common.{◌≡◌, ℕ, ◌+◌, ◌++◌, List, [], ◌∷◌, length, map, ap, sym, ◌∙◌, arith}
+use Rattle.std.specs.Prelude.{slice_get}
+use Rattle.std.specs.Arc.{arc_value}
+use Rattle.bv_terms.specs.declared.words.Form.{Form}
+use Rattle.bv_terms.specs.Index.{all_forms}
+use Rattle.bv_terms.proofs.IndexLemmas.{all-apart, all-push, length-all, behind, on_ok, length-after}
 use Rattle.bv_terms.proofs.forms.Forms.push.Goals as goal
 
-pub invariant_of-self-else-is_err : goal.invariant_of-self-else-is_err
-invariant_of-self-else-is_err c =
-    let node : Node = record { form = c.args.form; earlier = c.copied-earlier.result } in
-    let code : c.code_of-code.result ≡ form_code c.args.form = c.code_of-code.ensures in
-    let link : c.copied-earlier.result ≡ get nat_eq c.self.inside.heads (form_code c.args.form) =
-    c.copied-earlier.ensures ∙ c.get.ensures.value ∙ ap (λ n. get nat_eq c.self.inside.heads n) code in
-    let place : c.len-place.result ≡ length c.self.inside.nodes.items = omega (arith, c.len-place.ensures) in
-    let updates : Updates nat_eq c.self.inside.heads c.insert.new.self c.code_of-code.result (Some c.len-place.result) =
-    where_ok c.insert.result (Updates nat_eq c.self.inside.heads c.insert.new.self c.code_of-code.result (Some c.len-place.result)) (sym c.if-is_err.ensures.value) c.insert.ensures.updates in
-    subst (λ items. IsLinked items c.insert.new.self) (sym c.in_ok-push.ensures.items)
-    (linked-push c.self.inside.nodes.items node c.self.inside.heads c.insert.new.self c.self.invariant link
-    (subst (λ n. (other : ℕ) → get nat_eq c.insert.new.self other ≡ cond (nat_eq n other) (Some (length c.self.inside.nodes.items)) (get nat_eq c.self.inside.heads other)) code
-    (subst (λ m. (other : ℕ) → get nat_eq c.insert.new.self other ≡ cond (nat_eq c.code_of-code.result other) (Some m) (get nat_eq c.self.inside.heads other)) place updates.0)))
+pub push-requires-clause-absent : goal.push-requires-clause-absent
+push-requires-clause-absent c = λ i there.
+    let segments : List (List Form) = map (λ s. arc_value s) c.self.inside.full.items in
+    let place : ℕ = length (all_forms segments []) + i in
+    c.requires.absent place
+    (ap (λ (fs : List Form). slice_get fs place) (sym c.self.view_is) ∙ ap (λ (fs : List Form). slice_get fs place) (all-apart segments c.self.inside.own)
+    ∙ behind (all_forms segments []) c.self.inside.own i ∙ there)
+
+pub invariant_of-self : goal.invariant_of-self
+invariant_of-self c =
+    let segments : List (List Form) = map (λ s. arc_value s) c.self.inside.full.items in
+    let one_more = length-after c.push.result c.self.inside.own c.push.new.self c.args.form c.push.ensures.ok c.push.ensures.err in (
+      c.self.invariant.0,
+      omega (arith, one_more, length-all segments c.push.new.self, length-all segments c.self.inside.own, ap length c.self.view_is, c.requires.room),
+    )
+
+pub returns-clause-ok : goal.returns-clause-ok
+returns-clause-ok c =
+    let segments : List (List Form) = map (λ s. arc_value s) c.self.inside.full.items in
+    on_ok c.push.result (c.push.new.self ≡ c.self.inside.own ++ c.args.form ∷ []) (all_forms segments c.push.new.self ≡ c.args.self.now ++ c.args.form ∷ [])
+    (λ pushed. ap (λ (own : List Form). all_forms segments own) pushed ∙ all-push segments c.self.inside.own c.args.form ∙ ap (λ (fs : List Form). fs ++ c.args.form ∷ []) c.self.view_is) c.push.ensures.ok

@@ -1,5 +1,5 @@
 use Rattle.std.proofs.Common.{◌∙◌}
-use Rattle.wasm_check.specs.Runs.{peeked}
+use Rattle.wasm_check.specs.code.Runs.{peeked}
 use Rattle.wasm_check.proofs.RunLemmas.{peeked-is-none}
 use Rattle.wasm_check.proofs.stack.Peek.is_empty.Goals as goal
 

@@ -1,4 +1,4 @@
-use Rattle.wasm_check.specs.Runs.{peeked}
+use Rattle.wasm_check.specs.code.Runs.{peeked}
 use Rattle.wasm_check.proofs.RunLemmas.{peeked-pop, pop-base}
 use Rattle.wasm_check.proofs.stack.Peek.pop.Goals as goal
 

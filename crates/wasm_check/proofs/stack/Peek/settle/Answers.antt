@@ -1,5 +1,5 @@
 use Rattle.std.proofs.Common.{◌∙◌, length, refl, sym}
-use Rattle.wasm_check.specs.Runs.{peeked}
+use Rattle.wasm_check.specs.code.Runs.{peeked}
 use Rattle.wasm_check.proofs.RunLemmas.{brought-up, none-left, peeked-none}
 use Rattle.wasm_check.proofs.stack.Peek.settle.Goals as goal
 

@@ -1,5 +1,5 @@
 use Rattle.std.proofs.Common.{◌≡◌, length}
-use Rattle.wasm_check.specs.Runs.{peeked}
+use Rattle.wasm_check.specs.code.Runs.{peeked}
 use Rattle.wasm_check.proofs.stack.Peek.settle.Given as goal
 
 abbrev pub invariant-loop-run : goal.invariant-loop-run

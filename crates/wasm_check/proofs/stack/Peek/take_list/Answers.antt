@@ -2,9 +2,9 @@ use Rattle.std.proofs.Common.{◌≡◌, ◌-◌, length, sym, ap, ◌∙◌, ar
 use Rattle.std.specs.Prelude.{Some, None}
 use Rattle.wasm_ast.specs.declared.types.ValType.TheVariants.{I32}
 use Rattle.wasm_check.specs.declared.stack.Run.TheVariants.{First}
-use Rattle.wasm_check.specs.Lists.{listed}
-use Rattle.wasm_check.specs.Runs.{run_of, peeked}
-use Rattle.wasm_check.specs.Checker.{popped}
+use Rattle.type_suffixes.specs.Lists.{listed}
+use Rattle.wasm_check.specs.code.Runs.{run_of, peeked}
+use Rattle.wasm_check.specs.code.Checker.{popped}
 use Rattle.wasm_check.proofs.RunLemmas.{whole, none-wanted, taken-more}
 use Rattle.wasm_check.proofs.stack.Peek.take_list.Goals as goal
 

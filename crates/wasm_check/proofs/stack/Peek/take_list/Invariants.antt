@@ -1,9 +1,9 @@
 use Rattle.std.proofs.Common.{◌≡◌, ◌≤◌, length}
 use Rattle.wasm_check.specs.declared.stack.Run.TheVariants.{First}
 use Rattle.wasm_check.specs.Operands.{operands}
-use Rattle.wasm_check.specs.Checker.{popped}
-use Rattle.wasm_check.specs.Lists.{listed}
-use Rattle.wasm_check.specs.Runs.{run_of, peeked}
+use Rattle.wasm_check.specs.code.Checker.{popped}
+use Rattle.type_suffixes.specs.Lists.{listed}
+use Rattle.wasm_check.specs.code.Runs.{run_of, peeked}
 use Rattle.wasm_check.proofs.stack.Peek.take_list.Given as goal
 
 -- what was wanted of the stack as it was is still wanted of the present one

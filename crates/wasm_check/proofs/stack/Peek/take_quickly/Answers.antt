@@ -1,7 +1,7 @@
 use Rattle.std.proofs.Common.{reverse, sym, ap, ◌∙◌}
 use Rattle.wasm_check.specs.declared.stack.Run.TheVariants.{First}
-use Rattle.wasm_check.specs.Runs.{run_of, runs_of, peeked}
-use Rattle.wasm_check.specs.Checker.{popped}
+use Rattle.wasm_check.specs.code.Runs.{run_of, runs_of, peeked}
+use Rattle.wasm_check.specs.code.Checker.{popped}
 use Rattle.wasm_check.proofs.RunLemmas.{all-at-once}
 use Rattle.wasm_check.proofs.stack.Peek.take_quickly.Goals as goal
 

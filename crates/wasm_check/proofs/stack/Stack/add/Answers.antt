@@ -1,5 +1,5 @@
 use Rattle.std.proofs.Common.{◌∙◌, reverse, sym}
-use Rattle.wasm_check.specs.Runs.{known}
+use Rattle.wasm_check.specs.code.Runs.{known}
 use Rattle.wasm_check.proofs.RunLemmas.{on-none, on-some}
 use Rattle.wasm_check.proofs.stack.Stack.add.Goals as goal
 

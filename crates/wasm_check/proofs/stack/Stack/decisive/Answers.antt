@@ -1,6 +1,6 @@
 use Rattle.std.proofs.Common.{◌≡◌, length, refl, ap, arith}
-use Rattle.wasm_check.specs.Lists.{listed}
-use Rattle.wasm_check.specs.Runs.{known, peeked}
+use Rattle.type_suffixes.specs.Lists.{listed}
+use Rattle.wasm_check.specs.code.Runs.{known, peeked}
 use Rattle.wasm_check.proofs.RunLemmas.{none-left}
 use Rattle.wasm_check.proofs.Deciding.{hangs-on-all, hangs-on-lowest, down-run}
 use Rattle.wasm_check.proofs.stack.Stack.decisive.Goals as goal

@@ -1,6 +1,6 @@
 use Rattle.std.proofs.Common.{◌≡◌, ◌≤◌, drop, length}
-use Rattle.wasm_check.specs.Lists.{listed}
-use Rattle.wasm_check.specs.Runs.{known, peeked}
+use Rattle.type_suffixes.specs.Lists.{listed}
+use Rattle.wasm_check.specs.code.Runs.{known, peeked}
 use Rattle.wasm_check.proofs.stack.Stack.decisive.Given as goal
 
 -- the operands of the runs so far are counted, and the others are those that are left

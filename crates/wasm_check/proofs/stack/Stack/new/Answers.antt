@@ -1,7 +1,7 @@
 use Rattle.std.proofs.Common.{false, reverse, ap}
-use Rattle.wasm_check.specs.declared.lists.Listed.TheVariants.{Nothing}
+use Rattle.type_suffixes.specs.declared.lists.Listed.TheVariants.{Nothing}
 use Rattle.wasm_check.specs.declared.stack.Run.TheVariants.{First}
-use Rattle.wasm_check.specs.Runs.{held, known}
+use Rattle.wasm_check.specs.code.Runs.{held, known}
 use Rattle.wasm_check.proofs.stack.Stack.new.Goals as goal
 
 pub returns : goal.returns

@@ -1,5 +1,5 @@
 use Rattle.std.proofs.Common.{reverse, ap}
-use Rattle.wasm_check.specs.Runs.{held, known, peeked}
+use Rattle.wasm_check.specs.code.Runs.{held, known, peeked}
 use Rattle.wasm_check.proofs.stack.Stack.peek.Goals as goal
 
 pub returns : goal.returns

@@ -1,4 +1,4 @@
-use Rattle.wasm_check.specs.Runs.{known}
+use Rattle.wasm_check.specs.code.Runs.{known}
 use Rattle.wasm_check.proofs.RunLemmas.{known-pop, pop-base}
 use Rattle.wasm_check.proofs.stack.Stack.pop.Goals as goal
 

@@ -1,7 +1,7 @@
 use Rattle.std.proofs.Common.{◌≡◌, take}
 use Rattle.wasm_check.specs.Operands.{operands}
-use Rattle.wasm_check.specs.Checker.{onto}
-use Rattle.wasm_check.specs.Runs.{known}
+use Rattle.wasm_check.specs.code.Checker.{onto}
+use Rattle.wasm_check.specs.code.Runs.{known}
 use Rattle.wasm_check.proofs.stack.Stack.put_all.Given as goal
 
 abbrev pub invariant-loop-t : goal.invariant-loop-t

@@ -1,6 +1,6 @@
 use Rattle.std.proofs.Common.{◌∙◌, reverse, sym, ap}
 use Rattle.std.proofs.lemmas.List.{append-nil}
-use Rattle.wasm_check.specs.Runs.{held, known}
+use Rattle.wasm_check.specs.code.Runs.{held, known}
 use Rattle.wasm_check.proofs.RunLemmas.{brought-up, none-left, known-none}
 use Rattle.wasm_check.proofs.stack.Stack.settle.Goals as goal
 

@@ -1,5 +1,5 @@
 use Rattle.std.proofs.Common.{◌≡◌, length}
-use Rattle.wasm_check.specs.Runs.{known}
+use Rattle.wasm_check.specs.code.Runs.{known}
 use Rattle.wasm_check.proofs.stack.Stack.settle.Given as goal
 
 abbrev pub invariant-loop-self : goal.invariant-loop-self

@@ -1,0 +1,23 @@
+use Rattle.std.proofs.Common.{◌≡◌, ◌∙◌, ◌+◌, ℕ, ap, sym, length, arith, replicate, subst}
+use Rattle.std.proofs.lemmas.List.{length-replicate}
+use Rattle.cow_pages.specs.Cells.{written, part}
+use Rattle.cow_pages.specs.code.Chunks.{cells_of}
+use Rattle.cow_pages.proofs.WrittenLemmas.{length-part}
+use Rattle.cow_pages.proofs.PaddedLemmas.{put-padded, put-list, list-part}
+use Rattle.cow_pages.proofs.pages.Pages.write.Goals as goal
+
+pub invariant_of-self-2 : goal.invariant_of-self-2
+invariant_of-self-2 c = (
+  put-padded c.self.inside.chunks.items c.as_mut_slice-chunks.result.now c.put.new.chunks c.self.inside.chunks.len c.self.inside.cells c.args.at (c.args.cells.now) c.args.self.now
+      c.self.invariant.0 c.self.view_is c.as_mut_slice-chunks.ensures.value c.as_mut_slice-chunks.ensures.len c.put.ensures.long
+      (c.requires)
+      c.in_ok-put.ensures.written,
+  c.self.invariant.1,
+)
+
+pub returns-clause-written : goal.returns-clause-written
+returns-clause-written c =
+    put-list c.self.inside.chunks.items c.as_mut_slice-chunks.result.now c.put.new.chunks c.self.inside.chunks.len c.self.inside.cells c.args.at (c.args.cells.now) c.args.self.now
+    c.self.invariant.0 c.self.view_is c.as_mut_slice-chunks.ensures.value c.as_mut_slice-chunks.ensures.len c.put.ensures.long
+    (c.requires)
+    c.in_ok-put.ensures.written

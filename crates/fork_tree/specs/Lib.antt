@@ -1,0 +1,7 @@
+pub mod Nodes
+pub mod Marks
+pub mod ShownTerms
+pub mod Tree
+pub mod Covers
+pub mod Order
+pub mod code

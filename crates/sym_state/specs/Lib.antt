@@ -1,0 +1,4 @@
+pub mod Nodes
+pub mod NextNodes
+pub mod States
+pub mod Examples

@@ -1,0 +1,4 @@
+pub mod Trees
+pub mod Beginnings
+pub mod Spans
+pub mod NamedLists

@@ -1,0 +1,3 @@
+-- What the code alone needs: no public contract speaks of it.
+pub mod Links
+pub mod Spans

@@ -1,6 +1,0 @@
-use Rattle.type_words.specs.Words.{word}
-use Rattle.type_words.specs.Links.{spelled, IsLink}
-use Rattle.type_words.proofs.words.ends.Given as goal
-
-abbrev pub invariant-loop-turn : goal.invariant-loop-turn
-invariant-loop-turn l = IsLink (spelled l.words.items) (word (spelled l.words.items) l.longer) l.here

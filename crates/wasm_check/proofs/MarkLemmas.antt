@@ -1,1 +1,0 @@
--- Flags that are set one list after another.

@@ -1,5 +1,0 @@
-use Rattle.wasm_check.proofs.NamedLists.{Naming}
-use Rattle.wasm_check.proofs.lists.Lists.new.Given as goal
-
-abbrev pub invariant-loop-x : goal.invariant-loop-x
-invariant-loop-x l = Naming l.types l.x l.takes.items l.gives.items

@@ -1,0 +1,6 @@
+pub mod CommentLaws
+pub mod GapLaws
+pub mod NextLaws
+pub mod StringFound
+pub mod StringLaws
+pub mod TokenLaws

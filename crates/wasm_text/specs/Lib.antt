@@ -1,0 +1,10 @@
+pub mod Characters
+pub mod Comments
+pub mod Examples
+pub mod Lexing
+pub mod PrintedInstructions
+pub mod PrintedTypes
+pub mod Printing
+pub mod Strings
+pub mod Tokens
+pub mod Words

@@ -1,0 +1,53 @@
+// What follows of the definitions. These functions do nothing; their contracts are the laws.
+ghost use Rattle.std.specs.Prelude.{◌≡◌, ◌+◌, ◌<◌, ◌≤◌, ℕ, List, [], Option, Ok, Some, None, length};
+ghost use Rattle.wasm_text.specs.declared.tokens.Token.{Token as OneToken};
+ghost use Rattle.wasm_text.specs.declared.tokens.LexBad.{LexBad as OneTrouble};
+ghost use Rattle.wasm_text.specs.Comments.{ClosesComment};
+ghost use Rattle.wasm_text.specs.Examples.{words_text, words_tokens, adjoining_text, adjoining_tokens, adjoining_trouble, open_comment_text, open_comment_trouble, sum_module, sum_text, least_module, least_text};
+ghost use Rattle.wasm_text.specs.Lexing.{comment_end, string_end, next_token, AreTokens};
+ghost use Rattle.wasm_text.specs.Printing.{printed};
+ghost use Rattle.wasm_text.specs.Strings.{ClosesString};
+ghost use Rattle.wasm_text.specs.Tokens.{IsNext, IsEnd};
+
+/// A law: a source has exactly one list of tokens, with its end or its first trouble.
+pub fn tokens_once(source: &str)
+    ensures some { (tokens : List OneToken) × (bad : Option OneTrouble) × AreTokens source.now tokens bad }
+    ensures tokens { (ts us : List OneToken) (b c : Option OneTrouble) → AreTokens source.now ts b → AreTokens source.now us c → ts ≡ us }
+    ensures end { (ts us : List OneToken) (b c : Option OneTrouble) → AreTokens source.now ts b → AreTokens source.now us c → b ≡ c }
+{}
+
+/// A law: a token ends after the place from which it was asked for, and within the source.
+pub fn token_within(source: &str)
+    ensures further { (at : ℕ) (t : OneToken) → at ≤ length source.now → next_token source.now at ≡ Ok (Some t) → at < t.end }
+    ensures within { (at : ℕ) (t : OneToken) → at ≤ length source.now → next_token source.now at ≡ Ok (Some t) → t.end ≤ length source.now }
+{}
+
+/// A law: a block comment ends where the grammar has its end, and is closed where the grammar closes it.
+pub fn comments_close(text: &str)
+    ensures found { (at n : ℕ) → comment_end 0 at text.now ≡ Some n → (left : List ℕ) × ClosesComment text.now left × (n + length left ≡ at + length text.now) }
+    ensures spelled { (at n : ℕ) (left : List ℕ) → ClosesComment text.now left → n + length left ≡ at + length text.now → comment_end 0 at text.now ≡ Some n }
+{}
+
+/// A law: a string ends where the grammar has its closing quote, and is closed where the grammar closes it.
+pub fn strings_close(text: &str)
+    ensures found { (quote at n : ℕ) → string_end quote 0 at text.now ≡ Ok n → (left : List ℕ) × ClosesString text.now left × (n + length left ≡ at + length text.now) }
+    ensures spelled { (quote at n : ℕ) (left : List ℕ) → ClosesString text.now left → n + length left ≡ at + length text.now → string_end quote 0 at text.now ≡ Ok n }
+{}
+
+/// A law: the next token is the one that the grammar has next, after separators and comments; and there is none exactly where
+/// only separators and comments are left.
+pub fn next_by_grammar(source: &str)
+    ensures found { (at : ℕ) (t : OneToken) → at ≤ length source.now → next_token source.now at ≡ Ok (Some t) → IsNext source.now at t }
+    ensures spelled { (at : ℕ) (t : OneToken) → IsNext source.now at t → next_token source.now at ≡ Ok (Some t) }
+    ensures end_found { (at : ℕ) → at ≤ length source.now → next_token source.now at ≡ Ok None → IsEnd source.now at }
+    ensures end_spelled { (at : ℕ) → IsEnd source.now at → next_token source.now at ≡ Ok None }
+{}
+
+/// Small texts have the tokens that they should have, and small modules are printed as they should be.
+pub fn examples()
+    ensures words { AreTokens words_text words_tokens None }
+    ensures adjoining { AreTokens adjoining_text adjoining_tokens (Some adjoining_trouble) }
+    ensures open_comment { AreTokens open_comment_text [] (Some open_comment_trouble) }
+    ensures sum { printed sum_module ≡ sum_text }
+    ensures least { printed least_module ≡ least_text }
+{}

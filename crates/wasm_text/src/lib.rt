@@ -1,0 +1,15 @@
+// Modules in the text format, as definitions (Text Format).
+//
+// A text is related to a module in three layers, and each says what the first trouble is of a text that has none:
+//
+// - characters to tokens (`specs/Lexing.antt`): the tokens of a text with their places, or the first trouble of its characters;
+// - tokens to a named module: what each field says as it is written, with identifiers where they stand;
+// - names to positions: what each identifier means.
+//
+// `specs/Printing.antt` says which text is printed of a module (`printed`).
+#![tactic(auto)]
+
+pub mod laws;
+pub mod tokens;
+
+pub use tokens::{LexBad, LexReason, Token, TokenKind};

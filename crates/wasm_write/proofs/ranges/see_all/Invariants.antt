@@ -1,5 +1,0 @@
-use Rattle.std.specs.List.{AllWithin}
-use Rattle.wasm_write.proofs.ranges.see_all.Given as goal
-
-abbrev pub invariant-loop-item : goal.invariant-loop-item
-invariant-loop-item g l = AllWithin g.T.InRange.Range l.items 0 l.item-index

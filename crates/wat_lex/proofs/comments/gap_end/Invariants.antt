@@ -1,0 +1,13 @@
+use Rattle.std.proofs.Common.{◌≡◌, ◌-◌, ◌≤◌, length, drop}
+use Rattle.wasm_text.specs.Lexing.{gap_end}
+use Rattle.wat_lex.proofs.comments.gap_end.Given as goal
+
+abbrev pub invariant-loop-at : goal.invariant-loop-at
+invariant-loop-at l = record {
+  same : gap_end 0 l.fn.from (drop l.fn.from l.bytes) ≡ gap_end 0 l.at (drop l.at l.bytes);
+  start : l.fn.from ≤ l.at;
+  within : l.at ≤ length l.bytes;
+}
+
+abbrev pub decreases-loop-at : goal.decreases-loop-at
+decreases-loop-at l = length l.bytes - l.at

@@ -1,0 +1,3 @@
+pub mod SequenceLaws
+pub mod WalkLaws
+pub mod WordLaws
