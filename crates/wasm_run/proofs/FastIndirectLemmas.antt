@@ -1,5 +1,5 @@
 -- `call_indirect` on the fast path: that it goes on, once its questions are answered by the number of its index.
-use Rattle.std.proofs.Common.{◌≡◌, ℕ, zero, suc, ◌+◌, ◌^◌, ◌<◌, List, [], ◌∷◌, map, drop, length, refl, sym, ap, ◌∙◌, subst, arith}
+use Rattle.std.proofs.Common.{◌≡◌, ℕ, zero, suc, ◌^◌, ◌<◌, List, [], ◌∷◌, map, drop, length, refl, sym, ap, ◌∙◌, subst, arith}
 use Rattle.std.specs.Prelude.{true, false, nat_le, slice_get, Option, Some, None, option_map, option_and_then, unwrap_or, Bool}
 use Rattle.std.proofs.lemmas.Bool.Decides.{nat_tests}
 use Rattle.wasm_ast.specs.declared.instructions.Instr.TheVariants.{CallIndirect}
@@ -31,7 +31,7 @@ use Rattle.wasm_machine.specs.Stores.{TablesSmall, list_at}
 use Rattle.wasm_machine.specs.Values.{reference, word_at}
 use Rattle.wasm_machine.proofs.IndirectLaws.{Indirect, indirect-says}
 use Rattle.wasm_machine.proofs.StepLaws.{acts-on, small-state}
-use Rattle.wasm_run.specs.code.Places.{IsFit, IsInOrder, IsNeverStuck, IsOwnEntry, CarriedOut, config_at, IsAtInstruction, IsFastStep}
+use Rattle.wasm_run.specs.code.Places.{IsOwnEntry, IsAtInstruction, IsFastStep}
 use Rattle.wasm_run.proofs.PlaceLemmas.{Asking}
 use Rattle.wasm_run.proofs.TurnLemmas.{asking_more}
 use Rattle.wasm_run.proofs.FastPathLemmas.{IsPlain, ready-from}

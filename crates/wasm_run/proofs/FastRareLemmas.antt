@@ -1,5 +1,5 @@
 -- Instructions whose questions the machine asks itself, on the fast path, where each is a test.
-use Rattle.std.proofs.Common.{◌≡◌, ◌≢◌, ℕ, ◌+◌, ◌^◌, ◌<◌, List, [], ◌∷◌, refl, sym, ap, ◌∙◌, subst}
+use Rattle.std.proofs.Common.{◌≡◌, ◌≢◌, ℕ, ◌^◌, ◌<◌, List, [], ◌∷◌, refl, sym, ap, ◌∙◌, subst}
 use Rattle.std.specs.Prelude.{Bool, true, false}
 use Rattle.wasm_ast.specs.declared.instructions.Instr.{Instr}
 use Rattle.wasm_ast.specs.declared.instructions.Instr.TheVariants.{Select}
@@ -25,7 +25,7 @@ use Rattle.wasm_machine.specs.States.{own, State}
 use Rattle.wasm_machine.specs.code.Moves.{noted}
 use Rattle.wasm_machine.specs.Values.{question}
 use Rattle.wasm_machine.proofs.StepLaws.{acts-on}
-use Rattle.wasm_run.specs.code.Places.{IsFit, IsInOrder, IsNeverStuck, CarriedOut, config_at, IsAtInstruction}
+use Rattle.wasm_run.specs.code.Places.{IsNeverStuck, CarriedOut, config_at, IsAtInstruction}
 use Rattle.wasm_run.proofs.PlaceLemmas.{Asking}
 use Rattle.wasm_run.proofs.TurnLemmas.{asking_more}
 use Rattle.wasm_run.proofs.FastPathLemmas.{IsPlain, MayAsk, keeps_found, keeps_word, keeps_value, asks_told, ready-from}

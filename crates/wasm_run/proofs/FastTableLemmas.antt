@@ -19,7 +19,7 @@ use Rattle.wasm_machine.specs.Values.{word_at}
 use Rattle.wasm_machine.specs.Acts.{Ready, IsNext, Acts, ActsOn}
 use Rattle.wasm_machine.proofs.Operands.{found-word}
 use Rattle.wasm_machine.proofs.StepLaws.{acts-on, next-in-range}
-use Rattle.wasm_run.specs.code.Places.{IsFit, IsInOrder, IsNeverStuck, CarriedOut, config_at, index_answers, IsAtInstruction, IsFastStep}
+use Rattle.wasm_run.specs.code.Places.{index_answers, IsAtInstruction, IsFastStep}
 use Rattle.wasm_run.proofs.PlaceLemmas.{Asking}
 use Rattle.wasm_run.proofs.TurnLemmas.{asking_more}
 use Rattle.wasm_run.proofs.FastPathLemmas.{IsPlain, ready-from}

@@ -1,19 +1,11 @@
 -- Laws of the machine's state in a run on plain numbers.
-use Rattle.std.proofs.Common.{◌≡◌, ℕ, zero, suc, ◌^◌, ◌<◌, ◌≤◌, List, [], ◌∷◌, drop, length, map, reverse, refl, sym, ap, ◌∙◌, subst, arith}
-use Rattle.std.specs.Prelude.{Bool, true, false, ◌&&◌, nat_lt, nat_le, slice_get, is_some, MatchOption, Option, Some, None}
-use Rattle.std.proofs.lemmas.List.{length-reverse}
-use Rattle.std.proofs.lemmas.Bool.Decides.{nat_tests}
-use Rattle.wasm_ast.specs.declared.instructions.Instr.{Instr}
+use Rattle.std.proofs.Common.{◌≡◌, ℕ, zero, suc, ◌^◌, ◌<◌, List, [], ◌∷◌, length, map, refl, sym, ap, ◌∙◌, subst, arith}
+use Rattle.std.specs.Prelude.{Bool, true, false}
 use Rattle.wasm_ast.specs.declared.modules.Module.{Module}
-use Rattle.wasm_reduction.specs.Configurations.{Value, Frame}
 use Rattle.wasm_reduction.specs.Combinators.{valued as valued_in}
 use Rattle.wasm_reduction.specs.Steps.{step, with_symbol}
-use Rattle.wasm_reduction.specs.Runs.{is_due, most_frames}
-use Rattle.wasm_machine.specs.declared.machine.Label.{Label as CodeLabel}
-use Rattle.wasm_machine.specs.declared.machine.Frame.{Frame as CodeFrame}
 use Rattle.wasm_machine.specs.declared.values.Value.{Value as CodeValue}
 use Rattle.wasm_machine.specs.Acts.{Sane, After, BytesAfter}
-use Rattle.wasm_machine.specs.Configurations.{frames_of}
 use Rattle.wasm_machine.specs.code.Moves.{pushed, noted}
 use Rattle.wasm_machine.specs.States.{State}
 use Rattle.wasm_machine.specs.Values.{value, valued, ValueHeld}
