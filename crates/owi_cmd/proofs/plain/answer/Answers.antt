@@ -11,7 +11,7 @@ returns-clause-answered g c =
 
 pub returns-clause-drained : goal.returns-clause-drained
 returns-clause-drained g c =
-    (no_write_fault c.in_ok-carried_out.field-0.status c.in_ok-carried_out.ensures.drained, λ read. c.in-Ok.ensures.ended)
+    (no_write_fault c.in_ok-carried_out.field-0.status c.in_ok-carried_out.ensures.drained, c.in-Ok.ensures.ended)
 
 pub carried_out-requires : goal.carried_out-requires
 carried_out-requires g c = (map (λ w. w.now) c.args.words.now, rw c.in-Some.is at c.in_ok-command.ensures.spelled)
