@@ -1,4 +1,6 @@
 // Bytes as they are written in the lines.
+ghost use Rattle.std.specs.Prelude.{◌<◌};
+
 use std::alloc::{AllocError, Global};
 
 /// The bytes that hexadecimal digits write, two each. Other characters count as 0.
