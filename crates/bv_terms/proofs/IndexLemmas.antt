@@ -1,9 +1,10 @@
 -- The index of a segment, and the forms of segments one after another.
-use Rattle.std.proofs.Common.{◌≡◌, ℕ, zero, suc, ◌+◌, ◌-◌, ◌<◌, ◌≤◌, Bool, true, false, cond, List, [], ◌∷◌, ◌++◌, length, map, drop, refl, ap, ap₂, sym, ◌∙◌, arith, Some, None, ⊎_elim}
-use Rattle.std.specs.Prelude.{◌↔◌, ◌^◌, slice_get, Result, Ok, Err, is_err, OnOk, OnErr}
+use Rattle.std.proofs.Common.{◌≡◌, ℕ, zero, suc, ◌+◌, ◌-◌, ◌<◌, ◌≤◌, Bool, true, false, cond, List, [], ◌∷◌, ◌++◌, length, map, drop, refl, ap, ap₂, sym, ◌∙◌, arith, Option, Some, None, ⊎_elim}
+use Rattle.std.specs.Prelude.{◌↔◌, ◌^◌, slice_get, IfSome, IfNone, Result, Ok, Err, is_err, OnOk, OnErr}
 use Rattle.std.specs.List.{AllZip}
 use Rattle.std.specs.declared.cmp.Ordering.{Ordering}
 use Rattle.std.specs.declared.cmp.Ordering.TheVariants.{Less, Equal, Greater}
+use Rattle.std.specs.declared.cmp.Reverse.{Reverse}
 use Rattle.std.specs.Ordering.{is_eq}
 use Rattle.std.specs.BTreeMap.{BTreeMap, get, is_at}
 use Rattle.std.proofs.lemmas.Bool.{false≢true, cases_lt}
@@ -27,28 +28,28 @@ some_number i j e = cc
 some_form : (f g : Form) → Some f ≡ Some g → f ≡ g
 some_form f g e = cc
 
-module _ (forms : List Form) (form : Form) (key : Key) (old new : BTreeMap Key ℕ) (indexed : IsIndexed forms old) (is : form_of key ≡ form)
+module _ (forms : List Form) (form : Form) (key : Reverse Key) (old new : BTreeMap (Reverse Key) ℕ) (indexed : IsIndexed forms old) (is : form_of key.0 ≡ form)
     (absent : (i : ℕ) → slice_get forms i ≡ Some form → ⊥)
-    (updates : (q : Key) → get key_cmp new q ≡ cond (is_at (key_cmp key) q) (Some (length forms)) (get key_cmp old q)) where
+    (updates : (q : Reverse Key) → get key_cmp new q ≡ cond (is_at (key_cmp key) q) (Some (length forms)) (get key_cmp old q)) where
   -- at a key of the form that was put there
-  here : (k : Key) (i : ℕ) → is_at (key_cmp key) k ≡ true → (get key_cmp new k ≡ Some i) ↔ (slice_get (forms ++ form ∷ []) i ≡ Some (form_of k))
+  here : (k : Reverse Key) (i : ℕ) → is_at (key_cmp key) k ≡ true → (get key_cmp new k ≡ Some i) ↔ (slice_get (forms ++ form ∷ []) i ≡ Some (form_of k.0))
   here k i e = (
     λ at. let place : length forms ≡ i = some_number (length forms) i (sym there ∙ at) in
         ap (λ n. slice_get (forms ++ form ∷ []) n) (sym place) ∙ get-last forms [] form ∙ ap (λ f. Some f) (sym is ∙ same),
-    λ at. ⊎_elim (λ was. absurd (absent i (was ∙ ap (λ f. Some f) (sym same ∙ is)))) (λ last. there ∙ ap (λ n. Some n) (sym last.0)) (get-push forms form i (form_of k) at),
+    λ at. ⊎_elim (λ was. absurd (absent i (was ∙ ap (λ f. Some f) (sym same ∙ is)))) (λ last. there ∙ ap (λ n. Some n) (sym last.0)) (get-push forms form i (form_of k.0) at),
   )
     where
-      same : form_of key ≡ form_of k
-      same = key-equal key k (equal_is (key_cmp key k) e)
+      same : form_of key.0 ≡ form_of k.0
+      same = sym (key-equal k.0 key.0 (equal_is (key_cmp key k) e))
 
       there : get key_cmp new k ≡ Some (length forms)
       there = updates k ∙ ap (λ b. cond b (Some (length forms)) (get key_cmp old k)) e
 
-  elsewhere : (k : Key) (i : ℕ) → is_at (key_cmp key) k ≡ false → (get key_cmp new k ≡ Some i) ↔ (slice_get (forms ++ form ∷ []) i ≡ Some (form_of k))
+  elsewhere : (k : Reverse Key) (i : ℕ) → is_at (key_cmp key) k ≡ false → (get key_cmp new k ≡ Some i) ↔ (slice_get (forms ++ form ∷ []) i ≡ Some (form_of k.0))
   elsewhere k i e = (
-    λ at. get-left forms (form ∷ []) i (form_of k) ((indexed k i).0 (sym stays ∙ at)),
+    λ at. get-left forms (form ∷ []) i (form_of k.0) ((indexed k i).0 (sym stays ∙ at)),
     λ at. ⊎_elim (λ was. stays ∙ (indexed k i).1 was)
-        (λ last. absurd (false≢true (sym e ∙ ap is_eq (key-same key k (is ∙ sym last.1))))) (get-push forms form i (form_of k) at),
+        (λ last. absurd (false≢true (sym e ∙ ap is_eq (key-same k.0 key.0 (last.1 ∙ sym is))))) (get-push forms form i (form_of k.0) at),
   )
     where
       stays : get key_cmp new k ≡ get key_cmp old k
@@ -57,7 +58,7 @@ module _ (forms : List Form) (form : Form) (key : Key) (old new : BTreeMap Key �
   pub indexed-push : IsIndexed (forms ++ form ∷ []) new
   indexed-push k i = go (is_at (key_cmp key) k) refl
     where
-      go : (b : Bool) → is_at (key_cmp key) k ≡ b → (get key_cmp new k ≡ Some i) ↔ (slice_get (forms ++ form ∷ []) i ≡ Some (form_of k))
+      go : (b : Bool) → is_at (key_cmp key) k ≡ b → (get key_cmp new k ≡ Some i) ↔ (slice_get (forms ++ form ∷ []) i ≡ Some (form_of k.0))
       go true e = here k i e
       go false e = elsewhere k i e
 
@@ -169,3 +170,15 @@ module _ {T E : Type 0} where
   pub length-after : (r : Result T E) (old new : List Form) (form : Form) → OnOk r (new ≡ old ++ form ∷ []) → OnErr r (new ≡ old) → length new ≤ length old + 1
   length-after (Ok x) old new form ok err = omega (arith, ap length ok, length-append old (form ∷ []))
   length-after (Err e) old new form ok err = omega (arith, ap length err)
+
+-- ---- what a map says of a key
+
+pub found-at : (r : Option ℕ) (forms : List Form) (key : Reverse Key) (places : BTreeMap (Reverse Key) ℕ) → IsIndexed forms places → r ≡ get key_cmp places key
+    → IfSome r (λ i. slice_get forms i ≡ Some (form_of key.0))
+found-at (Some i) forms key places indexed e = (indexed key i).0 (sym e)
+found-at None forms key places indexed e = tt
+
+pub absent-at : (r : Option ℕ) (forms : List Form) (key : Reverse Key) (places : BTreeMap (Reverse Key) ℕ) → IsIndexed forms places → r ≡ get key_cmp places key
+    → IfNone r ((i : ℕ) → slice_get forms i ≡ Some (form_of key.0) → ⊥)
+absent-at (Some i) forms key places indexed e = tt
+absent-at None forms key places indexed e = λ i at. let is : get key_cmp places key ≡ Some i = (indexed key i).1 at in let wrong : ⊥ = cc in wrong

@@ -11,7 +11,7 @@ use Rattle.bv_terms.specs.declared.words.Form.TheVariants.{Symbol as SymbolForm,
 use Rattle.bv_terms.specs.declared.key.Key.{Key}
 use Rattle.bv_terms.specs.declared.key.Key.TheVariants.{Symbol as SymbolKey, Un as UnKey, Bin as BinKey, Choose as ChooseKey, Byte as ByteKey, Join as JoinKey}
 use Rattle.bv_terms.specs.contracts.words.WordOrd.TheImpl as word_ord
-use Rattle.bv_terms.specs.Index.{form_of, key_cmp}
+use Rattle.bv_terms.specs.Index.{form_of, parts_cmp}
 
 word_cmp : Word → Word → Ordering
 word_cmp = (word_ord.ghosts).cmp
@@ -68,7 +68,7 @@ words-same (v ∷ vs) = equal_then (word_cmp v v) (slice_cmp word_cmp vs vs) (wo
 
 -- ---- keys
 
-pub key-equal : (k l : Key) → key_cmp k l ≡ Equal → form_of k ≡ form_of l
+pub key-equal : (k l : Key) → parts_cmp k l ≡ Equal → form_of k ≡ form_of l
 unfolding word_cmp
 key-equal (SymbolKey n wide) (SymbolKey m wider) e =
     let parts = then_equal (nat_cmp n m) (bool_cmp wide wider) e in
@@ -110,7 +110,7 @@ word-alike a b e = subst (λ c. word_cmp a c ≡ Equal) e (word-same a)
 words-alike : (vs ws : List Word) → vs ≡ ws → slice_cmp word_cmp vs ws ≡ Equal
 words-alike vs ws e = subst (λ us. slice_cmp word_cmp vs us ≡ Equal) e (words-same vs)
 
-pub key-same : (k l : Key) → form_of k ≡ form_of l → key_cmp k l ≡ Equal
+pub key-same : (k l : Key) → form_of k ≡ form_of l → parts_cmp k l ≡ Equal
 unfolding word_cmp
 key-same (SymbolKey n wide) (SymbolKey m wider) e =
     let number : n ≡ m = cc in

@@ -8,6 +8,7 @@ use crate::merging::absorbed;
 use crate::segment::Segment;
 use crate::words::Form;
 use std::alloc::{AllocError, Global};
+use std::cmp::Reverse;
 use std::marker::Model;
 use std::sync::Arc;
 
@@ -75,16 +76,17 @@ impl Forms {
     }
 
     /// The key of a form.
-    pub fn key(&self, form: &Form) -> Result<Key, AllocError>
-        ensures { IfOk result (λ key. form_of key ≡ form.now) }
+    pub fn key(&self, form: &Form) -> Result<Reverse<Key>, AllocError>
+        ensures { IfOk result (λ key. form_of key.0 ≡ form.now) }
     {
-        key_of(self.alloc, form)
+        let key = key_of(self.alloc, form)?;
+        Ok(Reverse(key))
     }
 
     /// The place of a form, where it is there.
-    pub fn find(&self, key: &Key) -> Option<u64>
-        ensures found { IfSome result (λ i. slice_get self.now i ≡ Some (form_of key.now)) }
-        ensures absent { IfNone result ((i : ℕ) → slice_get self.now i ≢ Some (form_of key.now)) }
+    pub fn find(&self, key: &Reverse<Key>) -> Option<u64>
+        ensures found { IfSome result (λ i. slice_get self.now i ≡ Some (form_of key.now.0)) }
+        ensures absent { IfNone result ((i : ℕ) → slice_get self.now i ≢ Some (form_of key.now.0)) }
     {
         let mut start = 0;
         for k in 0..self.full.len() {
@@ -101,8 +103,8 @@ impl Forms {
     }
 
     /// Puts a form that isn't there at the end. Where memory is wanting, all is as it was.
-    pub fn push(&mut self, form: Form, key: Key) -> Result<(), AllocError>
-        requires key { form_of key ≡ form }
+    pub fn push(&mut self, form: Form, key: Reverse<Key>) -> Result<(), AllocError>
+        requires key { form_of key.0 ≡ form }
         requires absent { (i : ℕ) → slice_get self.old i ≢ Some form }
         requires room { length self.old < 2 ^ 60 }
         ensures ok { OnOk result (self.new ≡ self.old ++ form ∷ []) }

@@ -7,6 +7,7 @@ use crate::key::key_of;
 use crate::segment::Segment;
 use crate::words::Form;
 use std::alloc::Global;
+use std::cmp::Reverse;
 use std::sync::Arc;
 
 /// A segment of more forms than this stays as it is.
@@ -78,6 +79,7 @@ fn add(all: &mut Segment, form: &Form, alloc: Global) -> bool
     let Ok(key) = key_of(alloc, form) else {
         return false;
     };
+    let key = Reverse(key);
     if all.find(&key).is_some() {
         return false;
     }

@@ -5,15 +5,17 @@ ghost use Rattle.bv_terms.specs.Index.{form_of};
 use crate::key::Key;
 use crate::words::Form;
 use std::alloc::{AllocError, Global};
+use std::cmp::Reverse;
 use std::collections::BTreeMap;
 use std::marker::Model;
 
 /// Forms in order, each of which is there once and is found by its key. The order of the keys is that of their parts, so no
-/// choice of forms makes any of them slow to find.
+/// choice of forms makes any of them slow to find; it is the opposite one, in which the latest terms, of which most forms are,
+/// are met first.
 #[derive(Drop)]
 pub struct Segment {
     forms: Vec<Form>,
-    places: BTreeMap<Key, u64>,
+    places: BTreeMap<Reverse<Key>, u64>,
 }
 
 impl Model for Segment {
@@ -55,16 +57,16 @@ impl Segment {
     }
 
     /// The place of a form, where it is there.
-    pub fn find(&self, key: &Key) -> Option<u64>
-        ensures found { IfSome result (λ i. slice_get self.now i ≡ Some (form_of key.now)) }
-        ensures absent { IfNone result ((i : ℕ) → slice_get self.now i ≢ Some (form_of key.now)) }
+    pub fn find(&self, key: &Reverse<Key>) -> Option<u64>
+        ensures found { IfSome result (λ i. slice_get self.now i ≡ Some (form_of key.now.0)) }
+        ensures absent { IfNone result ((i : ℕ) → slice_get self.now i ≢ Some (form_of key.now.0)) }
     {
         self.places.get(key).copied()
     }
 
     /// Puts a form that isn't there at the end. Where memory is wanting, all is as it was.
-    pub fn push(&mut self, form: Form, key: Key) -> Result<(), AllocError>
-        requires key { form_of key ≡ form }
+    pub fn push(&mut self, form: Form, key: Reverse<Key>) -> Result<(), AllocError>
+        requires key { form_of key.0 ≡ form }
         requires absent { (i : ℕ) → slice_get self.old i ≢ Some form }
         ensures ok { OnOk result (self.new ≡ self.old ++ form ∷ []) }
         ensures err { OnErr result (self.new ≡ self.old) }
