@@ -10,4 +10,4 @@ pub mod crossing;
 pub mod laws;
 pub mod rows;
 
-pub use rows::{Kind, Line, LineOp, Operand, Row, Shown, Terms};
+pub use rows::{Bounds, Kind, Line, LineOp, Operand, Row, Shown, Terms};

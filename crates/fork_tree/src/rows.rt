@@ -1,6 +1,17 @@
 // The rows of a tree of paths.
 use wasm_ast::{Cause, Draw, List, Value};
 
+/// The bounds of an exploration.
+#[derive(Clone, Copy, Debug, PartialEq, Eq)]
+pub struct Bounds {
+    /// The most units that a run may spend, from 1 to 10,000,000.
+    pub steps: u64,
+    /// The most choices of a path, from 0 to 64.
+    pub forks: u64,
+    /// The most conflicts of a question, from 1 to 1,000,000.
+    pub conflicts: u64,
+}
+
 /// How a path ends.
 #[derive(Drop)]
 pub enum Kind {

@@ -1,0 +1,5 @@
+mod ListLemmas
+mod TermLemmas
+mod ValueLemmas
+mod WordLemmas
+mod ZipLemmas
