@@ -10,7 +10,7 @@ use Rattle.bit_blast.specs.declared.gates.Gate.{Gate}
 use Rattle.bit_blast.specs.declared.gates.Gate.TheVariants.{And, Xor, Mux, Maj, Same}
 use Rattle.bit_blast.specs.Gates.{Wires, negation, gate_clauses, Circuit, next_of, clauses_from}
 use Rattle.bit_blast.specs.Blocks.{Built, put, put_all}
-use Rattle.bit_blast.specs.Formulas.{Condition, Known, wires_in, terms_in_order, build_terms, build_first, Parts, built, start, variables_from, condition_clauses, decisions, formula}
+use Rattle.bit_blast.specs.Formulas.{Condition, Known, wires_in, terms_in_order, build_terms, build_first, FormulaParts, built, start, variables_from, condition_clauses, decisions, formula}
 use Rattle.bit_blast.specs.Meanings.{AreProper, CanBeLeast}
 use Rattle.bit_blast.proofs.LengthLemmas.{length_map, length_put_all}
 use Rattle.bit_blast.proofs.RangeLemmas.{IsWire, AreWires, GateWires, IsRanged, gate-later, wire-negation, true-wire}
@@ -68,7 +68,7 @@ put_all_names (gate ∷ gates) c =
     )
 
 -- the last gates, from a variable on, are those of what is to be least
-pub record Last (all : Built Parts) : Type 0 where
+pub record Last (all : Built FormulaParts) : Type 0 where
   pub from : ℕ
   pub names : map variable_of all.result.least ≡ variables_from from (length all.result.least)
   pub ends : from + length all.result.least ≡ next_of all.circuit
@@ -102,22 +102,22 @@ all_last conditions draws first =
 
 -- ---- the order
 
-abbrev pub order_of : Built Parts → List ℕ
+abbrev pub order_of : Built FormulaParts → List ℕ
 order_of all = decisions all.circuit all.result.least
 
-abbrev least_names : Built Parts → List ℕ
+abbrev least_names : Built FormulaParts → List ℕ
 least_names all = map variable_of all.result.least
 
-abbrev symbol_names : Built Parts → List ℕ
+abbrev symbol_names : Built FormulaParts → List ℕ
 symbol_names all = variables_from 2 (all.circuit.first - 2)
 
-abbrev others : Built Parts → ℕ
+abbrev others : Built FormulaParts → ℕ
 others all = length all.circuit.gates - length all.result.least
 
-abbrev other_names : Built Parts → List ℕ
+abbrev other_names : Built FormulaParts → List ℕ
 other_names all = variables_from all.circuit.first (others all)
 
-module _ (all : Built Parts) (two_first : 2 ≤ all.circuit.first) (last : Last all) where
+module _ (all : Built FormulaParts) (two_first : 2 ≤ all.circuit.first) (last : Last all) where
   pub order_length : length (order_of all) ≡ next_of all.circuit - 1
   order_length =
       let ends = last.ends in

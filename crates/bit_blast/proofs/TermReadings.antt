@@ -5,7 +5,7 @@ use Rattle.std.proofs.Math.Nat.{div-eq_of_lt}
 use Rattle.int_ops.specs.Operators.{operand_bits, unary, total}
 use Rattle.int_ops.specs.Bytes.{byte_of, joined}
 use Rattle.wasm_rules.specs.Words.{CanJoin, bits_where, chosen, taken}
-use Rattle.bv_terms.specs.Terms.{Term, Number, Symbol, Unary, Binary, Choose, Byte, Join, Bytes, NoBytes, Then, count_of, is_number, width_of, HasWidth, AreBytes, value_of, values_of}
+use Rattle.bv_terms.specs.Terms.{Term, Number, Symbol, Unary, Binary, Choose, Byte, Join, Bytes, NoBytes, Then, count_of, is_number, width_of, HasWidth, HaveByteWidths, value_of, values_of}
 use Rattle.refute_check.specs.Clauses.{Assignment}
 use Rattle.bit_blast.specs.Gates.{Wires, false_wire, negation, Circuit}
 use Rattle.bit_blast.specs.Blocks.{none, choose}
@@ -163,14 +163,14 @@ byte_reads s one i ws =
 
 -- ---- joins
 
-pub bytes_long : (seen : List Term) (known : Known) → LongKnown seen known → (bytes : Bytes) → AreBytes bytes → BytesReady seen bytes → length (byte_wires known bytes) ≡ 8 * count_of bytes
+pub bytes_long : (seen : List Term) (known : Known) → LongKnown seen known → (bytes : Bytes) → HaveByteWidths bytes → BytesReady seen bytes → length (byte_wires known bytes) ≡ 8 * count_of bytes
 bytes_long seen known long NoBytes typed ready = refl
 bytes_long seen known long (Then t rest) typed ready =
     length-append (operand known 8 t) (byte_wires known rest)
     ∙ ap₂ (λ (m n : ℕ). m + n) (operand_long seen known long 8 t typed.0 ready.0) (bytes_long seen known long rest typed.1 ready.1) ∙ omega arith
 
 pub bytes_read : (s : Assignment) → s 1 ≡ true → (input : List ℕ) (seen : List Term) (known : Known) → LongKnown seen known → ReadKnown s input seen known
-    → (bytes : Bytes) → AreBytes bytes → BytesReady seen bytes → number (read s (byte_wires known bytes)) ≡ joined (values_of input bytes)
+    → (bytes : Bytes) → HaveByteWidths bytes → BytesReady seen bytes → number (read s (byte_wires known bytes)) ≡ joined (values_of input bytes)
 bytes_read s one input seen known long right NoBytes typed ready = refl
 bytes_read s one input seen known long right (Then t rest) typed ready =
     ap (λ (bs : List Bool). number bs) (read_append s (operand known 8 t) (byte_wires known rest))

@@ -1,5 +1,5 @@
 // Clauses and chains that words spell.
-use crate::words::Words;
+use row_words::Words;
 use refute_check::{Chain, Clause, Items, Log};
 use std::alloc::{AllocError, Global};
 

@@ -1,5 +1,5 @@
 // What a line does to a list, and its answer.
-use crate::words::{Words, numbers, words_of};
+use row_words::{Words, numbers, words_of};
 use cow_pages::Pages;
 use std::alloc::{AllocError, Global};
 

@@ -3,7 +3,7 @@ ghost use Rattle.std.specs.Prelude.{◌≤◌, All, IfOk, Some, None};
 ghost use Rattle.bv_terms.specs.declared.words.Word.TheVariants.{Term as Numbered};
 ghost use Rattle.bv_terms.specs.Graphs.{Holds};
 ghost use Rattle.bit_blast.specs.Meanings.{AreProper, CanBeLeast};
-ghost use Rattle.bit_blast.specs.Walks.{term_at, conditions_of};
+ghost use Rattle.bit_blast.specs.GraphConditions.{term_at, conditions_of};
 ghost use Rattle.path_ask.specs.Verdicts.{IsVerdict, IsRight, IsPick, IsLeast, SomeMeets};
 
 use crate::inputs::{input, number_at};

@@ -1,7 +1,7 @@
 use Rattle.bv_terms.specs.Terms.{Symbol}
 use Rattle.bv_terms.proofs.MakeLemmas.{makes-kept}
-use Rattle.term_rows.proofs.DeskLemmas.{still}
-use Rattle.term_rows.proofs.desk.Desk.symbol.Goals as goal
+use Rattle.term_rows.proofs.SessionLemmas.{still}
+use Rattle.term_rows.proofs.session.Session.symbol.Goals as goal
 
 pub invariant_of-self-2 : goal.invariant_of-self-2
 invariant_of-self-2 c =

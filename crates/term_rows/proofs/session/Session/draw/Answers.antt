@@ -1,5 +1,5 @@
-use Rattle.term_rows.proofs.DeskLemmas.{still, drawn-kept}
-use Rattle.term_rows.proofs.desk.Desk.draw.Goals as goal
+use Rattle.term_rows.proofs.SessionLemmas.{still, drawn-kept}
+use Rattle.term_rows.proofs.session.Session.draw.Goals as goal
 
 pub invariant_of-self-2 : goal.invariant_of-self-2
 invariant_of-self-2 c =

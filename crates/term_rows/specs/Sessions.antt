@@ -10,8 +10,8 @@ use Rattle.bv_terms.specs.declared.words.Form.TheVariants.{Symbol as SymbolForm,
 use Rattle.bv_terms.specs.Terms.{Number, HasWidth, width_of, HasSymbols}
 use Rattle.bv_terms.specs.Graphs.{TermGraph, Holds, term_of, terms_of}
 use Rattle.bit_blast.specs.Meanings.{IsProper}
-use Rattle.bit_blast.specs.Walks.{term_at}
-use Rattle.term_rows.specs.declared.desk.Entry.{Entry}
+use Rattle.bit_blast.specs.GraphConditions.{term_at}
+use Rattle.term_rows.specs.declared.session.Entry.{Entry}
 use Rattle.term_rows.specs.declared.drawn.Drawn.{Drawn}
 use Rattle.term_rows.specs.declared.questions.Question.{Question}
 

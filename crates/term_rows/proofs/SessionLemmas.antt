@@ -8,8 +8,8 @@ use Rattle.bv_terms.specs.declared.words.Word.{Word}
 use Rattle.bv_terms.specs.Terms.{Term, Symbol, HasWidth, is_number, is_same}
 use Rattle.bv_terms.specs.Graphs.{TermGraph, Holds, Draws, terms_of, term_of}
 use Rattle.bv_terms.proofs.MakeLemmas.{extends-word}
-use Rattle.term_rows.specs.declared.desk.Entry.{Entry}
-use Rattle.term_rows.specs.Desks.{IsEntry}
+use Rattle.term_rows.specs.declared.session.Entry.{Entry}
+use Rattle.term_rows.specs.Sessions.{IsEntry}
 
 pub still : (old new : TermGraph) (es : List Entry) → Kept Holds term_of old new → All (IsEntry old) es → All (IsEntry new) es
 still old new es kept each = λ i d below.

@@ -8,14 +8,14 @@ use Rattle.bv_terms.specs.declared.words.Word.TheVariants.{Num, Term as Numbered
 use Rattle.bv_terms.specs.declared.words.Form.{Form}
 use Rattle.bv_terms.specs.declared.words.Form.TheVariants.{Symbol as SymbolForm, Un, Bin, Choose as ChooseForm, Byte as ByteForm, Join as JoinForm}
 use Rattle.bv_terms.specs.Terms.{Term, Number, Symbol, Unary, Binary, Choose, Byte, Join, Bytes, NoBytes, Then}
-use Rattle.bv_terms.specs.Graphs.{TermGraph, Holds, term_of}
+use Rattle.bv_terms.specs.Graphs.{TermGraph, Holds}
 use Rattle.bit_blast.specs.declared.tasks.Task.{Task}
 use Rattle.bit_blast.specs.declared.tasks.Task.TheVariants.{Visit, Put}
 use Rattle.bit_blast.specs.Gates.{Wires}
-use Rattle.bit_blast.specs.Formulas.{Condition, Known, once_after, with_terms, symbols_end}
+use Rattle.bit_blast.specs.Formulas.{Known, once_after, with_terms, symbols_end}
 use Rattle.bit_blast.specs.declared.terms.Symbols.{Symbols}
-use Rattle.bv_terms.specs.declared.words.Cond.{Cond}
 use Rattle.wasm_rules.specs.Words.{bits_where}
+use Rattle.bit_blast.specs.GraphConditions.{term_at, terms_at}
 
 -- ---- places in a list
 
@@ -56,13 +56,6 @@ operands_of (Bin op a b) = a ∷ b ∷ []
 operands_of (ChooseForm wide c a b) = c ∷ a ∷ b ∷ []
 operands_of (ByteForm a i) = a ∷ []
 operands_of (JoinForm wide bytes) = bytes
-
--- the terms that numbers are in a graph
-abbrev pub term_at : TermGraph → ℕ → Term
-term_at g t = term_of g (Numbered t)
-
-abbrev pub terms_at : TermGraph → List ℕ → List Term
-terms_at g numbers = map (term_at g) numbers
 
 -- the terms in order after a task: a visit puts a term after all terms below it
 abbrev pub after_task : TermGraph → Task → List Term → List Term
@@ -135,14 +128,6 @@ wires_at wires (Some i) = slice_index_or wires i []
 abbrev pub symbol_firsts : ℕ → List Bool → List ℕ
 symbol_firsts from [] = []
 symbol_firsts from (wide ∷ draws) = from ∷ symbol_firsts (from + bits_where wide) draws
-
--- ---- conditions and what is to be least, as terms
-
-abbrev pub conditions_of : TermGraph → List Cond → List Condition
-conditions_of g conds = map (λ cond. (term_at g cond.term, cond.answer)) conds
-
-abbrev pub first_of : TermGraph → Option ℕ → Option Term
-first_of g first = option_map (λ t. term_at g t) first
 
 -- the variables of the symbols with these widths
 pub record AreSymbols (draws : List Bool) (symbols : Symbols) : Type 0 where

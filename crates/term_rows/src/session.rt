@@ -4,7 +4,7 @@ ghost use Rattle.int_ops.specs.Operators.{is_unary, is_binary};
 ghost use Rattle.wasm_rules.specs.Words.{CanJoin, bits_where};
 ghost use Rattle.bv_terms.specs.declared.words.Word.TheVariants.{Term as Numbered};
 ghost use Rattle.bv_terms.specs.Graphs.{Holds};
-ghost use Rattle.term_rows.specs.Desks.{IsWord, IsSome, HasWidths};
+ghost use Rattle.term_rows.specs.Sessions.{IsWord, IsSome, HasWidths};
 
 use crate::forms::text_of;
 use bv_terms::{Graph, Marks, TermId, Word, value_at};
@@ -22,16 +22,16 @@ pub struct Entry {
 
 /// A graph and words of it. Contracts see it as the graph.
 #[derive(Drop)]
-pub struct Desk {
+pub struct Session {
     alloc: Global,
     graph: Graph,
     entries: Vec<Entry>,
 }
 
-impl Model for Desk {
+impl Model for Session {
     ghost use Rattle.std.specs.Prelude.{All};
     ghost use Rattle.bv_terms.specs.Graphs.{TermGraph};
-    ghost use Rattle.term_rows.specs.Desks.{IsEntry};
+    ghost use Rattle.term_rows.specs.Sessions.{IsEntry};
 
     ghost Value = { TermGraph };
 
@@ -80,12 +80,12 @@ fn can_join(wide: bool, count: usize) -> bool
     }
 }
 
-impl Desk {
+impl Session {
     /// An empty graph and no words.
-    pub fn new(alloc: Global) -> Result<Desk, AllocError> {
+    pub fn new(alloc: Global) -> Result<Session, AllocError> {
         let graph = Graph::new(alloc)?;
         let entries = Vec::new(alloc);
-        Ok(Desk {
+        Ok(Session {
             alloc,
             graph,
             entries,
@@ -294,20 +294,20 @@ impl Desk {
         }
     }
 
-    /// Two desks with the same words, over the two graphs of a freeze.
-    pub fn freeze(self) -> Result<(Desk, Desk), AllocError> {
+    /// Two sessions with the same words, over the two graphs of a freeze.
+    pub fn freeze(self) -> Result<(Session, Session), AllocError> {
         let alloc = self.alloc;
         let graph = self.graph;
         let entries = self.entries;
         let others = entries.to_vec(alloc)?;
         match graph.freeze() {
             Ok((one, other)) => {
-                let first = Desk {
+                let first = Session {
                     alloc,
                     graph: one,
                     entries,
                 };
-                let second = Desk {
+                let second = Session {
                     alloc,
                     graph: other,
                     entries: others,
