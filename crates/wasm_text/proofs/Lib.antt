@@ -1,3 +1,4 @@
+pub mod Choosing
 pub mod CommentLaws
 pub mod GapLaws
 pub mod NextLaws
