@@ -33,15 +33,15 @@ abbrev pub any : Assignment → Clause → Bool
 any s [] = false
 any s (l ∷ clause) = holds s l || any s clause
 
-or_left : (a b : Bool) → IsTrue a → IsTrue (a || b)
+pub or_left : (a b : Bool) → IsTrue a → IsTrue (a || b)
 or_left true b h = refl
 or_left false b h = absurd (false≢true h)
 
-or_right : (a b : Bool) → IsTrue b → IsTrue (a || b)
+pub or_right : (a b : Bool) → IsTrue b → IsTrue (a || b)
 or_right true b h = refl
 or_right false b h = h
 
-or_cases : (a b : Bool) → IsTrue (a || b) → IsTrue a ⊎ IsTrue b
+pub or_cases : (a b : Bool) → IsTrue (a || b) → IsTrue a ⊎ IsTrue b
 or_cases true b h = inl refl
 or_cases false b h = inr h
 

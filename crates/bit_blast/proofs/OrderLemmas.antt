@@ -8,6 +8,7 @@ use Rattle.bv_terms.specs.Terms.{Term, Number, Symbol, Unary, Binary, Choose, By
 use Rattle.bv_terms.proofs.SameLemmas.{is_same-itself}
 use Rattle.bit_blast.specs.Formulas.{Condition, once_after, with_terms, with_bytes, with_conditions, with_first, terms_in_order}
 use Rattle.bit_blast.specs.Meanings.{IsProper, CanBeLeast, AreProper}
+use Rattle.bit_blast.proofs.ClauseLemmas.{or_left, or_right, or_cases}
 
 -- a term is there
 abbrev pub Has : List Term → Term → Type 0
@@ -37,18 +38,6 @@ Ordered draws before [] = Unit {0}
 Ordered draws before (t ∷ terms) = OperandsReady before t × IsProper draws t × Ordered draws (before ++ t ∷ []) terms
 
 -- ---- membership
-
-or_left : (a b : Bool) → IsTrue a → IsTrue (a || b)
-or_left true b h = refl
-or_left false b h = cc
-
-or_right : (a b : Bool) → IsTrue b → IsTrue (a || b)
-or_right true b h = refl
-or_right false b h = h
-
-or_cases : (a b : Bool) → IsTrue (a || b) → IsTrue a ⊎ IsTrue b
-or_cases true b h = inl refl
-or_cases false b h = inr h
 
 pub has-front : (xs ys : List Term) (t : Term) → Has xs t → Has (xs ++ ys) t
 has-front [] ys t h = cc

@@ -21,6 +21,7 @@ use Rattle.bit_blast.proofs.BlockLemmas.{Valued, none_reads, mux_reads}
 use Rattle.bit_blast.proofs.FittingLemmas.{length_fitted, filled_reads}
 use Rattle.bit_blast.proofs.OpcodeLemmas.{unary_operator_reads, length_unary_operator, binary_operator_reads, length_binary_operator}
 use Rattle.bit_blast.proofs.OrderLemmas.{Ready, BytesReady, OperandsReady, own_width}
+use Rattle.int_ops.proofs.BytesLemmas.{bits_of_bytes as byte_bits}
 
 -- ---- symbols
 
@@ -136,10 +137,6 @@ choose_reads s one condition xs ys c some same h =
     turn false x y = refl
 
 -- ---- bytes
-
-byte_bits : (i : ℕ) → 2 ^ (8 * i) ≡ 256 ^ i
-byte_bits zero = refl
-byte_bits (suc i) = ap (λ (n : ℕ). 2 ^ n) (mul-suc 8 i) ∙ pow-add 2 (8 * i) 8 ∙ ap (λ (n : ℕ). n * 256) (byte_bits i) ∙ sym (pow-suc 256 i)
 
 -- also past the end, where nothing is left
 number_beyond : (k : ℕ) (xs : List Bool) → number (drop k xs) ≡ number xs / 2 ^ k

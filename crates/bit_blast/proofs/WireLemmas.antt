@@ -6,6 +6,7 @@ use Rattle.refute_check.specs.Clauses.{Assignment, positive, negative, variable_
 use Rattle.bit_blast.specs.Gates.{Wires, true_wire, false_wire, negation, number_wires}
 use Rattle.bit_blast.specs.Meanings.{holds, bit, number_of}
 use Rattle.bit_blast.proofs.BitNumbers.{number, lowest, bits_of}
+use Rattle.refute_check.proofs.Membership.{variable-positive as variable_positive, variable-negative as variable_negative}
 
 -- the bits that wires have under an assignment
 abbrev pub read : Assignment → Wires → List Bool
@@ -22,12 +23,6 @@ even v = eq-eqb ((2 * v) % 2) 0 (omega arith)
 
 odd : (v : ℕ) → sign_of (2 * v + 1) ≡ false
 odd v = ne_eqb ((2 * v + 1) % 2) 0 (λ e. absurd (omega arith))
-
-pub variable_positive : (v : ℕ) → variable_of (positive v) ≡ v
-variable_positive v = omega arith
-
-pub variable_negative : (v : ℕ) → variable_of (negative v) ≡ v
-variable_negative v = omega arith
 
 pub holds_positive : (s : Assignment) (v : ℕ) → holds s (positive v) ≡ s v
 holds_positive s v =

@@ -4,17 +4,13 @@ use Rattle.std.specs.Prelude.{slice_index}
 use Rattle.std.proofs.lemmas.Nat.{mod_below, pow_pos}
 use Rattle.std.proofs.lemmas.List.Elements.{All-nil, All-cons}
 use Rattle.int_ops.specs.Operators.{operand_bits, result_bits}
-use Rattle.int_ops.proofs.WidthLemmas.{unary-below, binary-below}
+use Rattle.int_ops.proofs.WidthLemmas.{unary-below, binary-below, either}
 use Rattle.wasm_rules.specs.Words.{bits_where, CanJoin}
 use Rattle.wasm_rules.proofs.NumbersLemmas.{joined-fits}
 use Rattle.bv_terms.specs.Terms.{Term, Number, Symbol, Unary, Binary, Choose, Byte, Join, Bytes, NoBytes, Then, count_of, value_of, values_of, HasWidth, HaveByteWidths}
 
 pub at_width : (bits own n : ℕ) → bits ≡ own → n < 2 ^ own → n < 2 ^ bits
 at_width bits own n is below = subst (λ b. n < 2 ^ b) (sym is) below
-
-pub either : (P : ℕ → Type 0) (b : Bool) (m n : ℕ) → P m → P n → P (cond b m n)
-either P true m n p q = p
-either P false m n p q = q
 
 pub length-values_of : (input : List ℕ) (bytes : Bytes) → length (values_of input bytes) ≡ count_of bytes
 length-values_of input NoBytes = refl

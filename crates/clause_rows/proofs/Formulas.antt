@@ -2,7 +2,7 @@
 use Rattle.std.proofs.Common.{◌≡◌, ◌≤◌, ◌<◌, ◌+◌, ℕ, zero, suc, List, [], ◌∷◌, length, get_or, ◌⊎◌, inl, inr, refl, sym, subst, arith}
 use Rattle.std.specs.Prelude.{Bool, true, false, ◌==◌, ◌&&◌, ◌/◌, nat_le}
 use Rattle.std.specs.List.{list_all}
-use Rattle.std.proofs.lemmas.Bool.{eqb-true, true≢false}
+use Rattle.std.proofs.lemmas.Bool.{eqb-true, true≢false, and_parts as both}
 use Rattle.refute_check.specs.Clauses.{Clause, Holds, variable_of}
 use Rattle.refute_check.specs.Orders.{Names, NamesAll}
 use Rattle.refute_check.specs.declared.formulas.Cnf.{Cnf}
@@ -10,10 +10,6 @@ use Rattle.clause_solver.specs.Answers.{IsFormula}
 
 abbrev pub is_within : ℕ → ℕ → Bool
 is_within vars variable = nat_le 1 variable && nat_le variable vars
-
-both : (a b : Bool) → (a && b) ≡ true → (a ≡ true) × (b ≡ true)
-both true b e = (refl, e)
-both false b e = absurd (true≢false (sym e))
 
 -- the order names what it has at a place
 pub named-at : (order : List ℕ) (i v : ℕ) (d : ℕ) → i < length order → get_or order i d ≡ v → Names order v

@@ -26,7 +26,7 @@ length-push : (xs : List Bool) (x : Bool) → length (xs ++ x ∷ []) ≡ suc (l
 length-push [] x = refl
 length-push (z ∷ xs) x = ap suc (length-push xs x)
 
-length-values : (t : Trail) (n : ℕ) → length (values_of t n) ≡ n
+pub length-values : (t : Trail) (n : ℕ) → length (values_of t n) ≡ n
 length-values t zero = refl
 length-values t (suc n) = length-push (values_of t n) (assigned t (suc n)) ∙ ap suc (length-values t n)
 

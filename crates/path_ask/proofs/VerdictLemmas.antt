@@ -28,6 +28,7 @@ use Rattle.path_ask.specs.Reading.{spelled_down}
 use Rattle.path_ask.specs.Verdicts.{Meets, SomeMeets, IsLeastInput, IsLeastValue, IsPick}
 use Rattle.path_ask.specs.declared.verdicts.Pick.TheVariants.{Least as LeastPick}
 use Rattle.path_ask.proofs.ReadingLemmas.{spelled_is}
+use Rattle.clause_solver.proofs.Models.{length-values}
 
 -- what comes after the variables that are decided first
 abbrev later_order : List Condition → List Bool → Option Term → List ℕ
@@ -39,10 +40,6 @@ order_split : (conditions : List Condition) (draws : List Bool) (first : Option 
 order_split conditions draws first =
     append_assoc (least_variables conditions draws first) (variables_from 2 ((built conditions draws first).circuit.first - 2))
     (1 ∷ variables_from (built conditions draws first).circuit.first (length (built conditions draws first).circuit.gates - length (built conditions draws first).result.least))
-
-length-values : (t : Trail) (n : ℕ) → length (values_of t n) ≡ n
-length-values t zero = refl
-length-values t (suc n) = length-append (values_of t n) (assigned t (suc n) ∷ []) ∙ ap (λ (k : ℕ). k + 1) (length-values t n) ∙ omega arith
 
 get-names : (xs : List ℕ) (k d : ℕ) → k < length xs → Names xs (get_or xs k d)
 get-names [] k d h = absurd (omega arith)
