@@ -2,7 +2,7 @@
 use Rattle.std.proofs.Common.{◌≡◌, ℕ, zero, suc, ◌+◌, ◌-◌, ◌<◌, ◌≤◌, Bool, true, false, cond, not, ◌==◌, ◌⊎◌, inl, inr, ⊎_elim, List, [], ◌∷◌, ◌++◌, length, map, flat_map, reverse, refl, sym, ap, ◌∙◌, subst, arith, ap₂, length-append, Option, Some, None}
 use Rattle.std.proofs.lemmas.Bool.{cases_lt, cases_eq}
 use Rattle.bv_terms.specs.Terms.{Term}
-use Rattle.refute_check.specs.Clauses.{Clause, Holds, positive, negative, variable_of}
+use Rattle.refute_check.specs.Clauses.{Clause, HasLiteral, positive, negative, variable_of}
 use Rattle.refute_check.specs.Resolution.{each_once, without}
 use Rattle.refute_check.specs.Orders.{Names, NamesAll}
 use Rattle.refute_check.proofs.Membership.{variable-positive}
@@ -192,7 +192,7 @@ literals-append : (m : ℕ) (xs ys : List Clause) → LiteralsBelow m xs → Lit
 literals-append m [] ys h k = k
 literals-append m (x ∷ xs) ys h k = (h.0, literals-append m xs ys h.1 k)
 
-held-wire : (m : ℕ) (clause : Clause) (l : ℕ) → AreWires m clause → Holds l clause → IsWire m l
+held-wire : (m : ℕ) (clause : Clause) (l : ℕ) → AreWires m clause → HasLiteral l clause → IsWire m l
 held-wire m [] l i h = absurd h
 held-wire m (k ∷ clause) l i (inl e) = subst (λ (n : ℕ). IsWire m n) (sym e) i.0
 held-wire m (k ∷ clause) l i (inr h) = held-wire m clause l i.1 h

@@ -11,7 +11,7 @@ use Rattle.bit_blast.specs.Gates.{Wires, false_wire, negation, Circuit}
 use Rattle.bit_blast.specs.Blocks.{none, choose}
 use Rattle.bit_blast.specs.Operators.{fitted}
 use Rattle.bit_blast.specs.Formulas.{symbol_first, falling_wires, symbol_wires, Known, wires_in, operand, byte_wires, term_wires}
-use Rattle.bit_blast.specs.Meanings.{holds, number_of, input_from, input_of, IsProper}
+use Rattle.bit_blast.specs.Meanings.{holds, value_of_wires, input_from, input_of, IsProper}
 use Rattle.bit_blast.proofs.BitNumbers.{number}
 use Rattle.bit_blast.proofs.NumberLemmas.{number_below, number_append, number_drop, number_bits_of}
 use Rattle.bit_blast.proofs.SumLemmas.{either_is}
@@ -31,9 +31,9 @@ length_falling first (suc bits) = ap suc (length_falling first bits)
 
 -- the input's number for a symbol is what its wires spell
 input-at : (s : Assignment) (first : ℕ) (draws : List Bool) (k : ℕ) (wide : Bool) → slice_get draws k ≡ Some wide
-    → slice_index (input_from s first draws) k ≡ number_of s (falling_wires (symbol_first first draws k) (bits_where wide))
+    → slice_index (input_from s first draws) k ≡ value_of_wires s (falling_wires (symbol_first first draws k) (bits_where wide))
 input-at s first [] k wide h = cc
-input-at s first (w ∷ draws) zero wide h = let e : w ≡ wide = cc in ap (λ (b : Bool). number_of s (falling_wires first (bits_where b))) e
+input-at s first (w ∷ draws) zero wide h = let e : w ≡ wide = cc in ap (λ (b : Bool). value_of_wires s (falling_wires first (bits_where b))) e
 input-at s first (w ∷ draws) (suc k) wide h = input-at s (first + bits_where w) draws k wide h
 
 pub symbol_reads : (s : Assignment) (draws : List Bool) (k : ℕ) (wide : Bool) → slice_get draws k ≡ Some wide

@@ -4,7 +4,7 @@ use Rattle.std.proofs.lemmas.List.{reverse-append}
 use Rattle.std.proofs.lemmas.Bool.{cases_eq}
 use Rattle.refute_check.specs.Clauses.{Assignment, positive, negative, variable_of, sign_of}
 use Rattle.bit_blast.specs.Gates.{Wires, true_wire, false_wire, negation, number_wires}
-use Rattle.bit_blast.specs.Meanings.{holds, bit, number_of}
+use Rattle.bit_blast.specs.Meanings.{holds, bit, value_of_wires}
 use Rattle.bit_blast.proofs.BitNumbers.{number, lowest, bits_of}
 use Rattle.refute_check.proofs.Membership.{variable-positive as variable_positive, variable-negative as variable_negative}
 
@@ -12,7 +12,7 @@ use Rattle.refute_check.proofs.Membership.{variable-positive as variable_positiv
 abbrev pub read : Assignment → Wires → List Bool
 read s wires = map (holds s) wires
 
-pub number_read : (s : Assignment) (wires : Wires) → number_of s wires ≡ number (read s wires)
+pub number_read : (s : Assignment) (wires : Wires) → value_of_wires s wires ≡ number (read s wires)
 number_read s [] = refl
 number_read s (w ∷ wires) = ap (λ (n : ℕ). bit (holds s w) + 2 * n) (number_read s wires)
 

@@ -4,7 +4,7 @@ ghost use Rattle.refute_check.specs.Logs.{after_step};
 ghost use Rattle.refute_check.specs.Resolution.{each_once};
 ghost use Rattle.refute_check.specs.Machine.{Learnt as OneLearnt, stays, by_reason, analysed as analysed_of, count_at as count_of, highest_but as highest_of, has_variable as held_in};
 ghost use Rattle.refute_check.specs.Clauses.{variable_of};
-ghost use Rattle.clause_solver.specs.Analysis.{enough_for};
+ghost use Rattle.clause_solver.specs.code.Analysis.{enough_for};
 
 use crate::resolution::resolvent;
 use crate::trail::{Entry, Trail};

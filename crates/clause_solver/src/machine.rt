@@ -4,10 +4,10 @@ ghost use Rattle.refute_check.specs.Clauses.{variable_of};
 ghost use Rattle.refute_check.specs.Machine.{On as GoesOn, level_now, highest_but as highest_of, count_at as count_of, cut as cut_to, entry_of, turn as turn_of, conflict as conflict_of, decide as decide_of, puts as puts_of, unset as unset_of, start as start_of};
 ghost use Rattle.refute_check.specs.Orders.{Names};
 ghost use Rattle.refute_check.specs.Rising.{Rises, level_after};
-ghost use Rattle.clause_solver.specs.Turned.{seen, IsTurn, IsWatched};
-ghost use Rattle.clause_solver.specs.Watching.{opposite};
-ghost use Rattle.clause_solver.specs.Guarding.{AreGuarded, WereGuarded};
-ghost use Rattle.clause_solver.specs.Renewing.{IsSound};
+ghost use Rattle.clause_solver.specs.code.Turned.{seen, IsTurn, IsWatched};
+ghost use Rattle.clause_solver.specs.code.Watching.{opposite};
+ghost use Rattle.clause_solver.specs.code.Guarding.{AreGuarded, WereGuarded};
+ghost use Rattle.clause_solver.specs.code.Renewing.{IsSound};
 
 use crate::analysis::{Until, analysed, count_at, highest_but};
 use crate::rules::unset;

@@ -11,7 +11,7 @@ use Rattle.refute_check.specs.declared.refutation.Refutation.{Refutation}
 use Rattle.refute_check.specs.declared.checker.AcceptBad.{AcceptBad}
 use Rattle.refute_check.specs.declared.checker.AcceptBad.TheVariants.{Bad, NoMemory}
 use Rattle.refute_check.proofs.Soundness.{accepted_refutes}
-use Rattle.clause_solver.specs.Answers.{IsFormula, values_of, assignment_of, IsAnswer, IsRight as IsRightAnswer}
+use Rattle.clause_solver.specs.Answers.{IsFormula, values_of, assignment_of, IsAnswer, IsCorrectVerdict as IsRightAnswer}
 use Rattle.clause_solver.specs.declared.answer.Answer.{Answer}
 use Rattle.clause_solver.specs.declared.answer.Answer.TheVariants.{Model, Refuted}
 use Rattle.bit_blast.specs.Formulas.{Condition, symbols_end, variables_from, built, formula}

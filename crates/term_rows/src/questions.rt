@@ -2,7 +2,7 @@
 ghost use Rattle.std.specs.Prelude.{◌≡◌, ◌≤◌, IfOk, IfSome, OnOk, All};
 ghost use Rattle.bit_blast.specs.Formulas.{formula as formula_of};
 ghost use Rattle.bit_blast.specs.GraphConditions.{conditions_of, first_of};
-ghost use Rattle.path_ask.specs.Verdicts.{IsRight};
+ghost use Rattle.path_ask.specs.Verdicts.{IsCorrectVerdict};
 ghost use Rattle.term_rows.specs.Sessions.{AreOver, IsAsked, IsQuestion};
 
 use crate::session::Session;
@@ -122,7 +122,7 @@ pub fn refuting_log(
 pub fn ask(alloc: Global, g: &Graph, q: &Question, conflicts: u64) -> Result<Verdict, AllocError>
     requires question { IsQuestion g.now q.now }
     requires conflicts { 1 ≤ conflicts }
-    ensures { IfOk result (λ verdict. IsRight (conditions_of g.now q.now.conds.items) q.now.drawn.draws.items verdict) }
+    ensures { IfOk result (λ verdict. IsCorrectVerdict (conditions_of g.now q.now.conds.items) q.now.drawn.draws.items verdict) }
 {
     other_side(
         alloc,

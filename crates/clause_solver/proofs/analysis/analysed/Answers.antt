@@ -4,7 +4,7 @@ use Rattle.std.proofs.lemmas.Bool.{false≢true}
 use Rattle.refute_check.specs.Logs.{after_step}
 use Rattle.refute_check.specs.Clauses.{variable_of}
 use Rattle.refute_check.specs.Machine.{Learnt, stays, by_reason, has_variable}
-use Rattle.clause_solver.specs.Analysis.{enough_for}
+use Rattle.clause_solver.specs.code.Analysis.{enough_for}
 use Rattle.clause_solver.proofs.Analyses.{HasCome, come_none, stopped, come_end, come_stuck, come_step, come_skip}
 use Rattle.clause_solver.proofs.Joins.{step_once}
 use Rattle.clause_solver.proofs.analysis.analysed.Goals as goal

@@ -1,7 +1,7 @@
 use Rattle.std.proofs.Common.{◌≡◌}
 use Rattle.std.specs.Prelude.{IsTrue}
 use Rattle.refute_check.specs.Resolution.{each_once}
-use Rattle.clause_solver.specs.Analysis.{enough_for}
+use Rattle.clause_solver.specs.code.Analysis.{enough_for}
 use Rattle.clause_solver.proofs.Analyses.{HasCome}
 use Rattle.clause_solver.proofs.analysis.analysed.Given as goal
 

@@ -2,10 +2,10 @@
 use Rattle.std.specs.Prelude.{◌≡◌, ℕ, List, length, take, IsTrue}
 use Rattle.refute_check.specs.Machine as machine
 use Rattle.refute_check.specs.Rising.{IsLevelled}
-use Rattle.clause_solver.specs.Places.{IsOnce}
-use Rattle.clause_solver.specs.Guarding.{IsSettled}
-use Rattle.clause_solver.specs.Renewing.{IsSound}
-use Rattle.clause_solver.specs.Watching.{AllSet}
+use Rattle.clause_solver.specs.code.Places.{IsOnce}
+use Rattle.clause_solver.specs.code.Guarding.{IsSettled}
+use Rattle.clause_solver.specs.code.Renewing.{IsSound}
+use Rattle.clause_solver.specs.code.Watching.{AllSet}
 use Rattle.clause_solver.specs.declared.machine.State.{State}
 use Rattle.clause_solver.specs.declared.machine.Turned.{Turned}
 use Rattle.clause_solver.specs.declared.machine.Turned.TheVariants.{On, Model, Refuted, Spent}

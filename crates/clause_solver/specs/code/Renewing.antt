@@ -3,8 +3,8 @@ use Rattle.std.specs.Prelude.{◌≡◌, ◌≢◌, ◌<◌, ℕ, true, List, �
 use Rattle.refute_check.specs.Clauses.{Clause}
 use Rattle.refute_check.specs.Resolution.{has}
 use Rattle.refute_check.specs.Machine.{Trail}
-use Rattle.clause_solver.specs.Watching.{listed, AreAmong}
-use Rattle.clause_solver.specs.Guarding.{IsHeld, KeptAs, GuardedAs, ListedAs, IsBelow}
+use Rattle.clause_solver.specs.code.Watching.{listed, AreAmong}
+use Rattle.clause_solver.specs.code.Guarding.{IsHeld, KeptAs, GuardedAs, ListedAs, IsBelow}
 use Rattle.clause_solver.specs.declared.watches.Watches.{Watches}
 
 -- the pair of a number

@@ -5,7 +5,7 @@ use Rattle.refute_check.specs.Clauses.{Clause}
 use Rattle.refute_check.specs.Resolution.{has}
 use Rattle.refute_check.specs.Machine as machine
 use Rattle.refute_check.specs.Machine.{Trail, value_of, True, Unset, status}
-use Rattle.clause_solver.specs.Watching.{listed}
+use Rattle.clause_solver.specs.code.Watching.{listed}
 use Rattle.clause_solver.specs.declared.rules.Status.{Status}
 use Rattle.clause_solver.specs.declared.rules.Status.TheVariants.{Falsified, Forces, Idle}
 use Rattle.clause_solver.specs.declared.rules.Look.{Look}
@@ -17,13 +17,13 @@ abbrev pub IsMet : Trail → Clause → Type 0
 IsMet trail clause = (literal : ℕ) × (has clause literal ≡ true) × (value_of trail literal ≡ True)
 
 -- the clause holds the two at two places
-abbrev pub HoldsTwo : Clause → ℕ → ℕ → Type 0
-HoldsTwo clause first second = (i : ℕ) × (j : ℕ) × (i ≢ j) × (slice_get clause i ≡ Some first) × (slice_get clause j ≡ Some second)
+abbrev pub HasTwo : Clause → ℕ → ℕ → Type 0
+HasTwo clause first second = (i : ℕ) × (j : ℕ) × (i ≢ j) × (slice_get clause i ≡ Some first) × (slice_get clause j ≡ Some second)
 
 -- the clause is true, or its watched literals are unset
 abbrev pub IsGuarded : Trail → Clause → ℕ × ℕ → Type 0
 IsGuarded trail clause pair =
-    IsMet trail clause ⊎ (HoldsTwo clause pair.0 pair.1 × (value_of trail pair.0 ≡ Unset) × (value_of trail pair.1 ≡ Unset))
+    IsMet trail clause ⊎ (HasTwo clause pair.0 pair.1 × (value_of trail pair.0 ≡ Unset) × (value_of trail pair.1 ≡ Unset))
 
 -- it holds both of them, if it holds any
 abbrev pub IsHeld : Clause → ℕ × ℕ → Type 0
@@ -80,7 +80,7 @@ LookIs look.Met trail clause = IsMet trail clause
 LookIs look.Falsified trail clause = status trail clause ≡ machine.Falsified
 LookIs (look.Forces literal) trail clause = status trail clause ≡ machine.Forces literal
 LookIs (look.Two first second) trail clause =
-    HoldsTwo clause first second × (value_of trail first ≡ Unset) × (value_of trail second ≡ Unset)
+    HasTwo clause first second × (value_of trail first ≡ Unset) × (value_of trail second ≡ Unset)
 
 -- these literals can be watched where the clause has this status
 abbrev pub Watches : Status → Trail → Clause → ℕ × ℕ → Type 0
