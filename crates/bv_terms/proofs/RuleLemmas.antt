@@ -14,9 +14,10 @@ use Rattle.wasm_rules.specs.Words.{bits_where, chosen, CanJoin}
 use Rattle.wasm_rules.proofs.NumbersLemmas.{joined-fits}
 use Rattle.bv_terms.specs.Terms.{Term, Number, Symbol, Unary, Binary, Choose, Byte, Join, Bytes, NoBytes, Then, value_of, values_of, width_of, HasWidth, HaveByteWidths, number_of, is_same, are_same}
 use Rattle.bv_terms.specs.Making.{Rule, IsSound, Keeps, of_numbers, numbers_of, chosen_side, chosen_by, byte_of_join, byte_at, join_of_bytes, whole, bytes_of_term, bytes_where, rules, first_of, first_made, made}
-use Rattle.bv_terms.proofs.WidthLemmas.{at_width, either, value-below, values-below, length-values_of}
+use Rattle.bv_terms.proofs.WidthLemmas.{at_width, value-below, values-below, length-values_of}
 use Rattle.bv_terms.proofs.SameLemmas.{is_same-is, are_same-are, same_number}
 use Rattle.bv_terms.proofs.OperationRules.{given, nothing, adds_nothing-sound, changes_nothing-sound, leaves_nothing-sound, of_comparison-sound, of_same-sound}
+use Rattle.int_ops.proofs.WidthLemmas.{either}
 
 -- ---- numbers
 
