@@ -1,10 +1,15 @@
 pub mod Characters
 pub mod Comments
 pub mod Examples
+pub mod Integers
+pub mod Keywords
 pub mod Lexing
 pub mod PrintedInstructions
 pub mod PrintedTypes
 pub mod Printing
 pub mod Strings
+pub mod TextTypes
+pub mod TextValues
+pub mod TokenForms
 pub mod Tokens
 pub mod Words
