@@ -4,10 +4,13 @@ pub mod Examples
 pub mod Integers
 pub mod Keywords
 pub mod Lexing
+pub mod Names
 pub mod PrintedInstructions
 pub mod PrintedTypes
 pub mod Printing
 pub mod Strings
+pub mod TextFields
+pub mod TextInstructions
 pub mod TextTypes
 pub mod TextValues
 pub mod TokenForms

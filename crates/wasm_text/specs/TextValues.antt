@@ -64,7 +64,7 @@ abbrev pub escaped : List ℕ → List ℕ
 escaped text =
     let c = slice_index text 0 in
     if c == 0x75 then encode_utf8 (braced_number 0 (drop 2 text))
-    else (if is_hex c then 16 * hex_value c + hex_value (slice_index text 1) ∷ []
+    else (if is_hex c then (16 * hex_value c + hex_value (slice_index text 1)) ∷ []
     else short_escape c ∷ [])
 
 -- how many characters of it follow its backslash
