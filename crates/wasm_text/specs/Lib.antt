@@ -11,6 +11,7 @@ pub mod PrintedTypes
 pub mod Printing
 pub mod Resolved
 pub mod Strings
+pub mod TextExamples
 pub mod TextFields
 pub mod TextInstructions
 pub mod TextTypes
