@@ -4,3 +4,4 @@ pub mod NextLaws
 pub mod StringFound
 pub mod StringLaws
 pub mod TokenLaws
+pub mod TextLaws
