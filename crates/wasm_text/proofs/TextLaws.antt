@@ -1,10 +1,9 @@
 -- What a text spells is one thing: a module, or a first trouble.
-use Rattle.std.proofs.Common.{◌≡◌, ℕ, ◌+◌, ◌≤◌, ◌<◌, ◌^◌, ◌⊎◌, inl, inr, List, length, Option, Result, Ok, Err, refl, sym, ap, ◌∙◌, arith, IsUtf8}
+use Rattle.std.proofs.Common.{◌≡◌, ℕ, ◌<◌, ◌^◌, ◌⊎◌, inl, inr, List, length, Option, Result, Ok, Err, refl, sym, ap, ◌∙◌, arith, IsUtf8}
 use Rattle.wasm_ast.specs.declared.modules.Module.{Module}
 use Rattle.wasm_text.specs.declared.tokens.Token.{Token}
 use Rattle.wasm_text.specs.declared.tokens.LexBad.{LexBad}
 use Rattle.wasm_text.specs.declared.bad.TextBad.{TextBad}
-use Rattle.wasm_text.specs.Lexing.{AreTokens}
 use Rattle.wasm_text.specs.Texts.{spelled, Reads, IsText, TextFault}
 use Rattle.wasm_text.proofs.TokenLaws.{some_tokens, same_tokens}
 

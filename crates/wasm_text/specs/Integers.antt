@@ -3,7 +3,7 @@
 -- A literal has a sign or none, decimal digits or 0x and hexadecimal ones, and single underscores between digits. Without a
 -- sign it counts from 0 to 2 ^ bits - 1; with one, from -2 ^ (bits - 1) to 2 ^ (bits - 1) - 1. A number that counts things
 -- has no sign.
-use Rattle.std.specs.Prelude.{◌≡◌, ℕ, ◌+◌, ◌*◌, ◌-◌, ◌^◌, Bool, true, false, not, ◌==◌, ◌&&◌, ◌||◌, nat_lt, nat_le, if◌then◌else◌, List, [], ◌∷◌, ◌++◌, flat_map, drop, slice_index}
+use Rattle.std.specs.Prelude.{ℕ, ◌+◌, ◌*◌, ◌-◌, ◌^◌, Bool, true, false, ◌==◌, ◌&&◌, nat_le, if◌then◌else◌, List, [], ◌∷◌, drop, slice_index}
 use Rattle.wasm_ast.specs.Opcodes.{is_from}
 use Rattle.wasm_text.specs.Characters.{is_hex, hex_value}
 

@@ -1,10 +1,10 @@
 -- What names and uses of types are at fault with in a written module (Text Format, Modules). The fault that is told is the one
 -- of least place.
-use Rattle.std.specs.Prelude.{ℕ, Bool, true, false, nat_le, if◌then◌else◌, List, [], ◌∷◌, ◌++◌, map, drop, flat_map, slice_get, Option, Some, None, is_some, Result, Ok, Err}
+use Rattle.std.specs.Prelude.{ℕ, nat_le, if◌then◌else◌, List, [], ◌∷◌, ◌++◌, map, drop, flat_map, slice_get, Option, Some, None, is_some, Result, Ok, Err}
 use Rattle.wasm_ast.specs.declared.types.FuncType.{FuncType}
 use Rattle.wasm_ast.specs.declared.modules.Module.{Module}
 use Rattle.wasm_text.specs.declared.bad.TextBad.{TextBad}
-use Rattle.wasm_text.specs.declared.bad.TextBad.TheVariants.{Utf8, Lex, Outside, Range, Want, Locals, Unknown, Twice, Use as UseBad, NoMemory}
+use Rattle.wasm_text.specs.declared.bad.TextBad.TheVariants.{Unknown, Twice, Use as UseBad}
 use Rattle.wasm_text.specs.declared.named.Id.{Id}
 use Rattle.wasm_text.specs.declared.named.Idx.{Idx}
 use Rattle.wasm_text.specs.declared.named.Idx.TheVariants.{Numbered, Called}
@@ -20,7 +20,6 @@ use Rattle.wasm_text.specs.declared.named.WrittenStart.{WrittenStart}
 use Rattle.wasm_text.specs.declared.named.WrittenMode.{WrittenMode}
 use Rattle.wasm_text.specs.declared.named.WrittenMode.TheVariants as when
 use Rattle.wasm_text.specs.declared.named.WrittenElem.{WrittenElem}
-use Rattle.wasm_text.specs.declared.named.WrittenData.{WrittenData}
 use Rattle.wasm_text.specs.declared.named.Names.{Names}
 use Rattle.wasm_text.specs.declared.named.Named.{Named}
 use Rattle.wasm_text.specs.Names.{position_of, position}

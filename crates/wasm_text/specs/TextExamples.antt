@@ -1,5 +1,5 @@
 -- Small texts and what they are: modules, and first troubles.
-use Rattle.std.specs.Prelude.{ℕ, List, [], ◌∷◌, ◌++◌, Some, None, codes}
+use Rattle.std.specs.Prelude.{ℕ, List, [], ◌∷◌, None, codes}
 use Rattle.wasm_ast.specs.declared.modules.Module.{Module}
 use Rattle.wasm_text.specs.declared.tokens.Token.{Token}
 use Rattle.wasm_text.specs.declared.tokens.TokenKind.TheVariants.{Open, Close, Str, Word}

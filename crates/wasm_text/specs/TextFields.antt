@@ -3,20 +3,16 @@
 -- Each field adds to the module that those before it give. Abbreviations are written out where they stand: an inline export is
 -- an export of what the field defines, an inline import an import, and inline elements or data are a segment beside their table
 -- or memory.
-use Rattle.std.specs.Prelude.{ℕ, zero, suc, ◌+◌, ◌/◌, Bool, true, false, ◌||◌, not, nat_lt, if◌then◌else◌, List, [], ◌∷◌, ◌++◌, length, map, flat_map, Option, Some, None, Result, Ok, Err, bytes_eq, codes}
+use Rattle.std.specs.Prelude.{ℕ, zero, suc, ◌+◌, ◌/◌, Bool, true, false, ◌||◌, if◌then◌else◌, List, [], ◌∷◌, ◌++◌, length, map, flat_map, Option, Some, None, bytes_eq, codes}
 use Rattle.wasm_ast.specs.Sections.{has_any}
 use Rattle.wasm_ast.specs.declared.types.ValType.{ValType}
 use Rattle.wasm_ast.specs.declared.types.ValType.TheVariants.{FuncRef}
-use Rattle.wasm_ast.specs.declared.types.FuncType.{FuncType}
 use Rattle.wasm_ast.specs.declared.types.Limits.{Limits}
 use Rattle.wasm_ast.specs.declared.types.TableType.{TableType}
-use Rattle.wasm_ast.specs.declared.types.GlobalType.{GlobalType}
 use Rattle.wasm_ast.specs.declared.instructions.Instr.TheVariants.{Const32}
 use Rattle.wasm_ast.specs.declared.modules.Space.{Space}
 use Rattle.wasm_ast.specs.declared.modules.Space.TheVariants as space
 use Rattle.wasm_text.specs.declared.tokens.Token.{Token}
-use Rattle.wasm_text.specs.declared.tokens.LexBad.{LexBad}
-use Rattle.wasm_text.specs.declared.bad.TextBad.{TextBad}
 use Rattle.wasm_text.specs.declared.bad.TextBad.TheVariants.{NoMemory}
 use Rattle.wasm_text.specs.declared.named.Id.{Id}
 use Rattle.wasm_text.specs.declared.named.Idx.{Idx}
@@ -32,8 +28,8 @@ use Rattle.wasm_text.specs.declared.named.WrittenMode.TheVariants.{Passive, Decl
 use Rattle.wasm_text.specs.declared.named.Names.{Names}
 use Rattle.wasm_text.specs.declared.named.Named.{Named}
 use Rattle.wasm_text.specs.Integers.{count_of}
-use Rattle.wasm_text.specs.TokenForms.{Form, Rest, ◌>>=◌, gives, fails, ahead, next_is, next_word, word_inside, opens, place, pass, pass_two, want, opening, closing, parts_end, unfit, is_open, is_string, as_long}
-use Rattle.wasm_text.specs.TextValues.{u32, is_number, string, name, maybe_id, idx, idx_follows}
+use Rattle.wasm_text.specs.TokenForms.{Form, ◌>>=◌, gives, fails, ahead, next_is, next_word, word_inside, opens, place, pass, pass_two, want, opening, closing, parts_end, unfit, is_open, is_string, as_long}
+use Rattle.wasm_text.specs.TextValues.{is_number, string, name, maybe_id, idx, idx_follows}
 use Rattle.wasm_text.specs.TextTypes.{ref_type_word, ref_type, limits, table_type, global_type, func_type, func_use, locals}
 use Rattle.wasm_text.specs.TextInstructions.{instructions, one_folded}
 

@@ -11,7 +11,7 @@ use Rattle.wasm_ast.specs.declared.instructions.Instr.TheVariants as instr
 use Rattle.wasm_text.specs.declared.bad.TextBad.TheVariants.{NoMemory}
 use Rattle.wasm_text.specs.declared.named.Id.{Id}
 use Rattle.wasm_text.specs.declared.named.Idx.{Idx}
-use Rattle.wasm_text.specs.declared.named.Idx.TheVariants.{Numbered, Called}
+use Rattle.wasm_text.specs.declared.named.Idx.TheVariants.{Numbered}
 use Rattle.wasm_text.specs.declared.named.OneIndex.{OneIndex}
 use Rattle.wasm_text.specs.declared.named.OneIndex.TheVariants.{Br, BrIf}
 use Rattle.wasm_text.specs.declared.named.Written.{Written}

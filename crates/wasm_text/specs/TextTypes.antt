@@ -1,6 +1,5 @@
 -- Types in tokens, and what is outside (Text Format: Types; Modules, Type Uses).
-use Rattle.std.specs.Prelude.{ℕ, zero, suc, ◌+◌, ◌-◌, Bool, true, false, not, ◌&&◌, ◌||◌, nat_le, if◌then◌else◌, List, [], ◌∷◌, ◌++◌, length, take, drop, map, flat_map, Option, Some, None, bytes_eq, codes}
-use Rattle.std.specs.List.{list_any}
+use Rattle.std.specs.Prelude.{ℕ, zero, suc, ◌+◌, Bool, true, false, not, ◌&&◌, ◌||◌, nat_le, if◌then◌else◌, List, [], ◌∷◌, ◌++◌, length, take, map, flat_map, Option, Some, None, bytes_eq, codes}
 use Rattle.wasm_ast.specs.declared.types.ValType.{ValType}
 use Rattle.wasm_ast.specs.declared.types.ValType.TheVariants.{I32, I64, FuncRef, ExternRef}
 use Rattle.wasm_ast.specs.declared.types.FuncType.{FuncType}
@@ -10,9 +9,8 @@ use Rattle.wasm_ast.specs.declared.types.GlobalType.{GlobalType}
 use Rattle.wasm_text.specs.declared.bad.TextBad.TheVariants.{Outside, Locals, NoMemory}
 use Rattle.wasm_text.specs.declared.named.Idx.{Idx}
 use Rattle.wasm_text.specs.declared.named.Local.{Local}
-use Rattle.wasm_text.specs.declared.named.Use.{Use}
 use Rattle.wasm_text.specs.Integers.{count_of}
-use Rattle.wasm_text.specs.TokenForms.{Form, Rest, ◌>>=◌, gives, fails, next_is, next_word, opens, place, pass, pass_two, want, opening, closing, parts_end, keyword, is_open, is_word, as_long, keeps}
+use Rattle.wasm_text.specs.TokenForms.{Form, ◌>>=◌, gives, fails, next_is, next_word, opens, place, pass, pass_two, want, opening, closing, parts_end, keyword, is_open, is_word, as_long, keeps}
 use Rattle.wasm_text.specs.TextValues.{u32, is_number, is_identifier, maybe_id, idx}
 
 -- ---- words of what is outside: floating-point numbers and vectors

@@ -1,5 +1,5 @@
 -- Numbers, strings, identifiers and indices in tokens (Text Format: Values; Modules, Indices).
-use Rattle.std.specs.Prelude.{ℕ, zero, suc, ◌+◌, ◌*◌, ◌-◌, Bool, true, false, not, ◌==◌, ◌&&◌, ◌||◌, nat_lt, if◌then◌else◌, List, [], ◌∷◌, ◌++◌, length, take, drop, slice_index, Option, Some, None, bytes_eq, encode_utf8}
+use Rattle.std.specs.Prelude.{ℕ, zero, suc, ◌+◌, ◌*◌, Bool, true, false, ◌==◌, ◌&&◌, ◌||◌, nat_lt, if◌then◌else◌, List, [], ◌∷◌, ◌++◌, length, drop, slice_index, Option, Some, None, encode_utf8}
 use Rattle.std.specs.Str.{is_utf8}
 use Rattle.wasm_text.specs.declared.tokens.Token.{Token}
 use Rattle.wasm_text.specs.declared.bad.TextBad.TheVariants.{Utf8, Range}
@@ -8,7 +8,7 @@ use Rattle.wasm_text.specs.declared.named.Idx.{Idx}
 use Rattle.wasm_text.specs.declared.named.Idx.TheVariants.{Numbered, Called}
 use Rattle.wasm_text.specs.Characters.{is_hex, hex_value}
 use Rattle.wasm_text.specs.Integers.{Literal, NoNumber, OutOfRange, Number, count_of, integer_of}
-use Rattle.wasm_text.specs.TokenForms.{Form, ◌>>=◌, gives, fails, next_is, next_word, place, source, pass, want, token_of, is_string, token_text}
+use Rattle.wasm_text.specs.TokenForms.{Form, ◌>>=◌, gives, fails, next_word, place, source, pass, want, token_of, is_string, token_text}
 
 -- ---- numbers
 
