@@ -5,3 +5,4 @@ pub mod NextLaws
 pub mod StringFound
 pub mod StringLaws
 pub mod TokenLaws
+pub mod TextLaws

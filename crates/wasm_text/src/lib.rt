@@ -9,7 +9,16 @@
 // `specs/Printing.antt` says which text is printed of a module (`printed`).
 #![tactic(auto)]
 
+pub mod bad;
+pub mod keywords;
 pub mod laws;
+pub mod named;
 pub mod tokens;
 
+pub use bad::TextBad;
+pub use keywords::Keyword;
+pub use named::{
+    Id, Idx, Local, Named, Names, OneIndex, Use, Written, WrittenData, WrittenElem, WrittenExport,
+    WrittenExpr, WrittenFunc, WrittenGlobal, WrittenImport, WrittenKind, WrittenMode, WrittenStart,
+};
 pub use tokens::{LexBad, LexReason, Token, TokenKind};
