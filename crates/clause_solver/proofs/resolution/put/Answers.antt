@@ -1,5 +1,4 @@
-use Rattle.std.proofs.Common.{◌≡◌, ◌∙◌, arith, sym}
-use Rattle.refute_check.specs.Machine.{level_of}
+use Rattle.std.proofs.Common.{◌∙◌, arith, sym}
 use Rattle.clause_solver.proofs.Joins.{more_there, more_new}
 use Rattle.clause_solver.proofs.Counts.{count_small, push_here, push_other}
 use Rattle.clause_solver.proofs.resolution.put.Goals as goal

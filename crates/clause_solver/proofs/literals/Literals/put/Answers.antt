@@ -1,5 +1,4 @@
 use Rattle.std.proofs.Common.{◌≡◌, ◌∷◌, ◌++◌, [], false, length, arith, sym, ap, ◌∙◌, subst}
-use Rattle.std.specs.Prelude.{Some, slice_set}
 use Rattle.refute_check.specs.Resolution.{has}
 use Rattle.clause_solver.specs.code.Literals.{IsStored, present}
 use Rattle.clause_solver.proofs.Storing.{stored_longer, stored_push, present_push}
