@@ -4,4 +4,5 @@ pub mod Watching
 pub mod Guarding
 pub mod Renewing
 pub mod Analysis
+pub mod Literals
 pub mod Turned

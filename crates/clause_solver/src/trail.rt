@@ -38,7 +38,8 @@ impl Copy for Entry {}
 impl Entry {
     /// The variable of the literal.
     pub fn variable(&self) -> u64
-        ensures { result ≡ variable_of self.now.literal }
+        ensures exact { result ≡ variable_of self.now.literal }
+        ensures small { result < 2 ^ 63 }
     {
         self.literal / 2
     }
