@@ -2,12 +2,12 @@
 ghost use Rattle.std.specs.Prelude.{◌≤◌, IfOk, IfSome};
 ghost use Rattle.term_rows.specs.Sessions.{IsQuestion};
 
-use crate::session::Session;
 use crate::prints::fingerprint;
 use crate::questions::{Question, ask, formula, least_value_of, question_about, refuting_log};
-use row_words::{Words, numbers};
+use crate::session::Session;
 use path_ask::{Pick, Verdict};
 use refute_check::Chain;
+use row_words::{Words, numbers};
 use std::alloc::{AllocError, Global};
 
 // Whether each of the symbols is wide, by their widths.
@@ -64,7 +64,11 @@ fn with_numbers(alloc: Global, head: String, numbers: &[u64]) -> Result<String, 
 }
 
 /// How many variables and clauses a formula has, and its print.
-pub fn formula_line(alloc: Global, session: &Session, words: &mut Words) -> Result<String, AllocError> {
+pub fn formula_line(
+    alloc: Global,
+    session: &Session,
+    words: &mut Words,
+) -> Result<String, AllocError> {
     let Some(question) = question_of(alloc, session, words)? else {
         return refused(alloc);
     };
@@ -94,7 +98,11 @@ pub fn ask_line(alloc: Global, session: &Session, words: &mut Words) -> Result<S
 }
 
 /// The least value of a term at the inputs that meet conditions.
-pub fn pick_line(alloc: Global, session: &Session, words: &mut Words) -> Result<String, AllocError> {
+pub fn pick_line(
+    alloc: Global,
+    session: &Session,
+    words: &mut Words,
+) -> Result<String, AllocError> {
     let Some(conflicts) = bound(words) else {
         return refused(alloc);
     };

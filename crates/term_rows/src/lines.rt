@@ -1,19 +1,27 @@
 // What a line asks of a session.
 use crate::asks::{ask_line, formula_line, log_line, pick_line};
-use crate::session::Session;
 use crate::forms::word_text;
-use row_words::{Words, numbers, words_of};
+use crate::session::Session;
 use bv_terms::Word;
+use row_words::{Words, numbers, words_of};
 use std::alloc::{AllocError, Global};
 
-fn constant(session: &mut Session, words: &mut Words, wide: bool) -> Result<Option<Word>, AllocError> {
+fn constant(
+    session: &mut Session,
+    words: &mut Words,
+    wide: bool,
+) -> Result<Option<Word>, AllocError> {
     let Some(n) = words.number() else {
         return Ok(None);
     };
     session.constant(wide, n)
 }
 
-fn symbol(session: &mut Session, words: &mut Words, wide: bool) -> Result<Option<Word>, AllocError> {
+fn symbol(
+    session: &mut Session,
+    words: &mut Words,
+    wide: bool,
+) -> Result<Option<Word>, AllocError> {
     let Some(number) = words.number() else {
         return Ok(None);
     };
@@ -43,7 +51,11 @@ fn bin(session: &mut Session, words: &mut Words) -> Result<Option<Word>, AllocEr
     session.bin(op, a, b)
 }
 
-fn choose(session: &mut Session, words: &mut Words, wide: bool) -> Result<Option<Word>, AllocError> {
+fn choose(
+    session: &mut Session,
+    words: &mut Words,
+    wide: bool,
+) -> Result<Option<Word>, AllocError> {
     let Some(c) = words.number() else {
         return Ok(None);
     };

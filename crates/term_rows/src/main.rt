@@ -19,15 +19,15 @@
 #![tactic(auto)]
 
 mod asks;
-mod session;
 mod drawn;
 mod forms;
 mod lines;
 mod prints;
 mod questions;
+mod session;
 
-use session::Session;
 use lines::answer;
+use session::Session;
 use std::{io, mem};
 
 fn main(rt: HostRuntime) -> io::Result<()> {

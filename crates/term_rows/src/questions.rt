@@ -5,8 +5,8 @@ ghost use Rattle.bit_blast.specs.GraphConditions.{conditions_of, first_of};
 ghost use Rattle.path_ask.specs.Verdicts.{IsCorrectVerdict};
 ghost use Rattle.term_rows.specs.Sessions.{AreOver, IsAsked, IsQuestion};
 
-use crate::session::Session;
 use crate::drawn::Drawn;
+use crate::session::Session;
 use bit_blast::clauses;
 use bv_terms::{Cond, Graph, TermId};
 use clause_solver::{Answer, solve};
