@@ -1,7 +1,8 @@
 pub mod CommentLaws
+pub mod FormLaws
 pub mod GapLaws
 pub mod NextLaws
 pub mod StringFound
 pub mod StringLaws
-pub mod TokenLaws
 pub mod TextLaws
+pub mod TokenLaws
