@@ -1,8 +1,9 @@
 pub mod Choosing
 pub mod CommentLaws
+pub mod FormLaws
 pub mod GapLaws
 pub mod NextLaws
 pub mod StringFound
 pub mod StringLaws
-pub mod TokenLaws
 pub mod TextLaws
+pub mod TokenLaws
