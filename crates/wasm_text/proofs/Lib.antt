@@ -6,3 +6,5 @@ pub mod StringFound
 pub mod StringLaws
 pub mod TextLaws
 pub mod TokenLaws
+pub mod ValueMoves
+pub mod InstructionMoves
