@@ -2,6 +2,7 @@
 use Rattle.std.proofs.Common.{ℕ, zero, suc, ◌+◌, ◌<◌, length, Bool, true, false, List, [], ◌∷◌, Option, Some, None, refl, arith}
 use Rattle.std.specs.Prelude.{codes, drop, if◌then◌else◌}
 use Rattle.wasm_ast.specs.declared.instructions.Instr.{Instr}
+use Rattle.wasm_ast.specs.declared.instructions.Instr.TheVariants as instr
 use Rattle.wasm_text.specs.declared.named.Id.{Id}
 use Rattle.wasm_text.specs.declared.named.OneIndex.{OneIndex}
 use Rattle.wasm_text.specs.declared.named.Written.{Written}
@@ -14,7 +15,7 @@ use Rattle.wasm_text.specs.Keywords.{keyword_of, own_alignment}
 use Rattle.wasm_text.specs.TokenForms.{Form, gives, next_is, opens, is_word, is_open}
 use Rattle.wasm_text.specs.TextValues.{idx_follows, is_identifier}
 use Rattle.wasm_text.specs.TextTypes.{block_use, begins_with}
-use Rattle.wasm_text.specs.TextInstructions.{Labels, is_label, exponent_or, label, label_again, names_label, one_index, table_index, some_number, number_after, exponent_below, power_of_two, told_power, alignment, access, constant, branch_table, call_indirect, null_of, select, with_elem, table_init, table_copy, operands, Sequence, all_of, Part, Instructions, Folded, Conditions, Parts, no_instruction, block, second_part, maybe_else, if_block, plain, unfolded_of, folded_block, folded_else, no_else, maybe_folded_else, folded_branches, folded_if, folded_plain, folded_of, folded, unfolded, more_of, one_of, parts_below, enough, instructions_here, instructions, one_folded_here, one_folded}
+use Rattle.wasm_text.specs.TextInstructions.{Labels, or_zero, is_label, exponent_or, label, label_again, names_label, one_index, table_index, some_number, number_after, exponent_below, power_of_two, told_power, alignment, access, constant, branch_table, call_indirect, null_of, select, with_elem, table_init, table_copy, operands, Sequence, all_of, Part, Instructions, Folded, Conditions, Parts, no_instruction, block, second_part, maybe_else, if_block, plain, unfolded_of, folded_block, folded_else, no_else, maybe_folded_else, folded_branches, folded_if, folded_plain, folded_of, folded, unfolded, more_of, one_of, parts_below, enough, instructions_here, instructions, one_folded_here, one_folded}
 use Rattle.wasm_text.proofs.FormLaws.{Moves, weaker, goes, after, before_taken, after_taken, below_taken, if_moves, gives_moves, source_moves, next_is_moves, next_word_moves, opens_moves, want_moves, pass_moves, opening_moves, closing_moves, keyword_moves, pass_two_moves, parts_end_moves, as_long_moves}
 use Rattle.wasm_text.proofs.ValueMoves.{out_of_range_moves, passed_moves, integer_moves, maybe_id_moves, idx_moves, idx_follows_moves, table_idx_moves, outside_moves, told_moves, result_parts_moves, use_moves}
 
@@ -51,7 +52,7 @@ alignment_moves : (n own : ℕ) → Moves n 0 (alignment own)
 alignment_moves n own = after (next_word_moves n) (λ w. after (if_moves (begins_with (codes "align=") w) (power_of_two_moves n (count_of (drop 6 w))) (gives_moves n None)) (λ k. gives_moves n (exponent_or own k)))
 
 access_moves : (n op : ℕ) (made : ℕ → ℕ → Instr) → Moves n 0 (access op made)
-access_moves n op made = after (number_after_moves n _) (λ offset. after (alignment_moves n (own_alignment op)) (λ align. gives_moves n _))
+access_moves n op made = after (number_after_moves n (codes "offset=")) (λ offset. after (alignment_moves n (own_alignment op)) (λ align. gives_moves n (written.Plain (made align (or_zero offset)))))
 
 constant_moves : (n bits : ℕ) (made : ℕ → Instr) → Moves n 0 (constant bits made)
 constant_moves n bits made = after (goes (integer_moves n bits)) (λ k. gives_moves n _)
@@ -77,10 +78,10 @@ operands_moves : (n : ℕ) (labels : Labels) (word : Keyword) → Moves n 0 (ope
 operands_moves n labels (Alone i) = gives_moves n _
 operands_moves n labels (Index i) = one_index_moves n labels i
 operands_moves n labels (TableIndex i) = after (table_idx_moves n) (λ x. gives_moves n _)
-operands_moves n labels (Load op) = access_moves n op _
-operands_moves n labels (Store op) = access_moves n op _
-operands_moves n labels Const32 = constant_moves n 32 _
-operands_moves n labels Const64 = constant_moves n 64 _
+operands_moves n labels (Load op) = access_moves n op (instr.Load op)
+operands_moves n labels (Store op) = access_moves n op (instr.Store op)
+operands_moves n labels Const32 = constant_moves n 32 instr.Const32
+operands_moves n labels Const64 = constant_moves n 64 instr.Const64
 operands_moves n labels BrTable = branch_table_moves n labels
 operands_moves n labels CallIndirect = call_indirect_moves n
 operands_moves n labels RefNull = null_of_moves n
@@ -123,19 +124,19 @@ unfolded_of_moves n parts labels k None p = no_instruction_moves (suc n)
 unfolded_of_moves n parts labels k (Some Block) p = block_moves n written.Block parts labels k p
 unfolded_of_moves n parts labels k (Some Loop) p = block_moves n written.Loop parts labels k p
 unfolded_of_moves n parts labels k (Some If) p = if_block_moves n parts labels k p
-unfolded_of_moves n parts labels k (Some (Alone i)) p = plain_moves (suc n) labels _
-unfolded_of_moves n parts labels k (Some (Index i)) p = plain_moves (suc n) labels _
-unfolded_of_moves n parts labels k (Some (TableIndex i)) p = plain_moves (suc n) labels _
-unfolded_of_moves n parts labels k (Some (Load op)) p = plain_moves (suc n) labels _
-unfolded_of_moves n parts labels k (Some (Store op)) p = plain_moves (suc n) labels _
-unfolded_of_moves n parts labels k (Some Const32) p = plain_moves (suc n) labels _
-unfolded_of_moves n parts labels k (Some Const64) p = plain_moves (suc n) labels _
-unfolded_of_moves n parts labels k (Some BrTable) p = plain_moves (suc n) labels _
-unfolded_of_moves n parts labels k (Some CallIndirect) p = plain_moves (suc n) labels _
-unfolded_of_moves n parts labels k (Some RefNull) p = plain_moves (suc n) labels _
-unfolded_of_moves n parts labels k (Some Select) p = plain_moves (suc n) labels _
-unfolded_of_moves n parts labels k (Some TableInit) p = plain_moves (suc n) labels _
-unfolded_of_moves n parts labels k (Some TableCopy) p = plain_moves (suc n) labels _
+unfolded_of_moves n parts labels k (Some (Alone i)) p = plain_moves (suc n) labels (Alone i)
+unfolded_of_moves n parts labels k (Some (Index i)) p = plain_moves (suc n) labels (Index i)
+unfolded_of_moves n parts labels k (Some (TableIndex i)) p = plain_moves (suc n) labels (TableIndex i)
+unfolded_of_moves n parts labels k (Some (Load op)) p = plain_moves (suc n) labels (Load op)
+unfolded_of_moves n parts labels k (Some (Store op)) p = plain_moves (suc n) labels (Store op)
+unfolded_of_moves n parts labels k (Some Const32) p = plain_moves (suc n) labels Const32
+unfolded_of_moves n parts labels k (Some Const64) p = plain_moves (suc n) labels Const64
+unfolded_of_moves n parts labels k (Some BrTable) p = plain_moves (suc n) labels BrTable
+unfolded_of_moves n parts labels k (Some CallIndirect) p = plain_moves (suc n) labels CallIndirect
+unfolded_of_moves n parts labels k (Some RefNull) p = plain_moves (suc n) labels RefNull
+unfolded_of_moves n parts labels k (Some Select) p = plain_moves (suc n) labels Select
+unfolded_of_moves n parts labels k (Some TableInit) p = plain_moves (suc n) labels TableInit
+unfolded_of_moves n parts labels k (Some TableCopy) p = plain_moves (suc n) labels TableCopy
 
 -- ---- folded, after the parenthesis
 
@@ -168,19 +169,19 @@ folded_of_moves n parts labels k None p = goes (no_instruction_moves n)
 folded_of_moves n parts labels k (Some Block) p = folded_block_moves n written.Block parts labels k p
 folded_of_moves n parts labels k (Some Loop) p = folded_block_moves n written.Loop parts labels k p
 folded_of_moves n parts labels k (Some If) p = folded_if_moves n parts labels k p
-folded_of_moves n parts labels k (Some (Alone i)) p = folded_plain_moves n parts labels k _ p
-folded_of_moves n parts labels k (Some (Index i)) p = folded_plain_moves n parts labels k _ p
-folded_of_moves n parts labels k (Some (TableIndex i)) p = folded_plain_moves n parts labels k _ p
-folded_of_moves n parts labels k (Some (Load op)) p = folded_plain_moves n parts labels k _ p
-folded_of_moves n parts labels k (Some (Store op)) p = folded_plain_moves n parts labels k _ p
-folded_of_moves n parts labels k (Some Const32) p = folded_plain_moves n parts labels k _ p
-folded_of_moves n parts labels k (Some Const64) p = folded_plain_moves n parts labels k _ p
-folded_of_moves n parts labels k (Some BrTable) p = folded_plain_moves n parts labels k _ p
-folded_of_moves n parts labels k (Some CallIndirect) p = folded_plain_moves n parts labels k _ p
-folded_of_moves n parts labels k (Some RefNull) p = folded_plain_moves n parts labels k _ p
-folded_of_moves n parts labels k (Some Select) p = folded_plain_moves n parts labels k _ p
-folded_of_moves n parts labels k (Some TableInit) p = folded_plain_moves n parts labels k _ p
-folded_of_moves n parts labels k (Some TableCopy) p = folded_plain_moves n parts labels k _ p
+folded_of_moves n parts labels k (Some (Alone i)) p = folded_plain_moves n parts labels k (Alone i) p
+folded_of_moves n parts labels k (Some (Index i)) p = folded_plain_moves n parts labels k (Index i) p
+folded_of_moves n parts labels k (Some (TableIndex i)) p = folded_plain_moves n parts labels k (TableIndex i) p
+folded_of_moves n parts labels k (Some (Load op)) p = folded_plain_moves n parts labels k (Load op) p
+folded_of_moves n parts labels k (Some (Store op)) p = folded_plain_moves n parts labels k (Store op) p
+folded_of_moves n parts labels k (Some Const32) p = folded_plain_moves n parts labels k Const32 p
+folded_of_moves n parts labels k (Some Const64) p = folded_plain_moves n parts labels k Const64 p
+folded_of_moves n parts labels k (Some BrTable) p = folded_plain_moves n parts labels k BrTable p
+folded_of_moves n parts labels k (Some CallIndirect) p = folded_plain_moves n parts labels k CallIndirect p
+folded_of_moves n parts labels k (Some RefNull) p = folded_plain_moves n parts labels k RefNull p
+folded_of_moves n parts labels k (Some Select) p = folded_plain_moves n parts labels k Select p
+folded_of_moves n parts labels k (Some TableInit) p = folded_plain_moves n parts labels k TableInit p
+folded_of_moves n parts labels k (Some TableCopy) p = folded_plain_moves n parts labels k TableCopy p
 
 pub folded_moves : (n : ℕ) (parts : Parts) (labels : Labels) (k : ℕ) → PartsMove n parts → Moves (suc n) 1 (folded parts labels k)
 folded_moves n parts labels k p = below_taken (opening_moves (suc n)) (λ _. after (next_word_moves n) (λ w. folded_of_moves n parts labels k (keyword_of w) p))

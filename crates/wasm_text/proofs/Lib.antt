@@ -8,3 +8,4 @@ pub mod TextLaws
 pub mod TokenLaws
 pub mod ValueMoves
 pub mod InstructionMoves
+pub mod FieldMoves

@@ -33,3 +33,12 @@ by_result text (Err bad) utf8 short reads = inr (bad, record { utf8 = utf8; read
 
 pub decided : (text : List ℕ) → IsUtf8 text → length text < 2 ^ 32 → ((m : Module) × IsText m text) ⊎ ((bad : TextBad) × TextFault text bad)
 decided text utf8 short = let some = reads_some text in by_result text some.0 utf8 short some.1
+
+-- ---- want of memory is no text's trouble
+
+not_resolved : (m : Module) (bad : Option TextBad) → ((why : TextBad) → bad ≡ Some why → is_memory why ≡ false) → unless m bad ≡ Err NoMemory → ⊥
+not_resolved m None h e = absurd cc
+not_resolved m (Some why) h e =
+    let same : why ≡ NoMemory = cc in
+    let no : is_memory why ≡ false = h why refl in
+    absurd (subst (λ w. is_memory w ≡ false) same no)
