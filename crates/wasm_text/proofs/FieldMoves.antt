@@ -1,6 +1,6 @@
 -- Forms of fields and modules end.
-use Rattle.std.proofs.Common.{ℕ, zero, suc, ◌<◌, length, Bool, true, false, List, [], ◌∷◌, Option, Some, None, refl, arith}
-use Rattle.std.specs.Prelude.{codes, bytes_eq, if◌then◌else◌}
+use Rattle.std.proofs.Common.{ℕ, zero, suc, length, true, false, List, Option, Some, None, arith}
+use Rattle.std.specs.Prelude.{codes, bytes_eq}
 use Rattle.wasm_ast.specs.declared.modules.Space.{Space}
 use Rattle.wasm_ast.specs.declared.modules.Space.TheVariants as space
 use Rattle.wasm_text.specs.declared.tokens.Token.{Token}
@@ -8,10 +8,10 @@ use Rattle.wasm_text.specs.declared.named.Id.{Id}
 use Rattle.wasm_text.specs.declared.named.WrittenMode.{WrittenMode}
 use Rattle.wasm_text.specs.declared.named.Named.{Named}
 use Rattle.wasm_text.specs.Integers.{count_of}
-use Rattle.wasm_text.specs.TokenForms.{Form, gives, next_is, opens, is_open, is_string}
+use Rattle.wasm_text.specs.TokenForms.{next_is, opens, is_open, is_string}
 use Rattle.wasm_text.specs.TextValues.{string, idx, idx_follows, is_number}
 use Rattle.wasm_text.specs.TextTypes.{ref_type_word, func_use}
-use Rattle.wasm_text.specs.TextFields.{has_definition, inline_name, inline_exports, two_names, import_word, inline_import, type_field, imported_func, imported_of, space_of, space_word_from, space_word, import_field, importing, func_definition, func_after, func_field, wrapped_instructions, wrapped, item, offset, items, func_items, entries, elem_word, table_with_elements, table_definition, is_ref_type, table_here, table_after, table_field, strings, memory_with_data, memory_limits, memory_definition, memory_after, memory_field, global_definition, global_after, global_field, export_field, start_field, Elements, funcs_of, func_list, item_list, elem_list, list_or_indices, elem_end, passive_elem, declared_elem, index_inside, elem_on_table, elem_on_first, active_elem, unopened_elem, elem_field, memory_index, active_mode, data_field, field_of, field, fields_below, fields, no_fields, ends_with, ended, whole_module, fields_alone, module_form}
+use Rattle.wasm_text.specs.TextFields.{has_definition, inline_name, inline_exports, two_names, import_word, inline_import, type_field, imported_of, space_of, space_word_from, space_word, import_field, importing, func_definition, func_field, wrapped, item, items, func_items, entries, elem_word, table_with_elements, is_ref_type, table_here, table_field, strings, memory_with_data, memory_definition, memory_field, global_definition, global_field, export_field, start_field, Elements, funcs_of, func_list, item_list, elem_list, list_or_indices, elem_end, index_inside, active_elem, unopened_elem, elem_field, active_mode, data_field, field_of, field, fields_below, fields, no_fields, ends_with, ended, module_form}
 use Rattle.wasm_text.proofs.FormLaws.{Moves, goes, after, before_taken, after_taken, below_taken, if_moves, gives_moves, ahead_moves, next_is_moves, next_word_moves, word_inside_moves, opens_moves, place_moves, want_moves, pass_moves, opening_moves, closing_moves, pass_two_moves, unfit_moves, parts_end_moves, as_long_moves}
 use Rattle.wasm_text.proofs.ValueMoves.{string_moves, name_moves, maybe_id_moves, idx_moves, idx_follows_moves, ref_type_moves, limits_moves, table_type_moves, global_type_moves, func_type_moves, use_moves, locals_moves}
 use Rattle.wasm_text.proofs.InstructionMoves.{instructions_moves, one_folded_moves}

@@ -1,22 +1,21 @@
 -- Forms of instructions end: what is inside a form has fewer tokens than the form.
-use Rattle.std.proofs.Common.{ℕ, zero, suc, ◌+◌, ◌<◌, length, Bool, true, false, List, [], ◌∷◌, Option, Some, None, refl, arith}
-use Rattle.std.specs.Prelude.{codes, drop, if◌then◌else◌}
+use Rattle.std.proofs.Common.{ℕ, zero, suc, ◌+◌, length, true, false, List, [], Option, Some, None, arith}
+use Rattle.std.specs.Prelude.{codes, drop}
 use Rattle.wasm_ast.specs.declared.instructions.Instr.{Instr}
 use Rattle.wasm_ast.specs.declared.instructions.Instr.TheVariants as instr
 use Rattle.wasm_text.specs.declared.named.Id.{Id}
 use Rattle.wasm_text.specs.declared.named.OneIndex.{OneIndex}
 use Rattle.wasm_text.specs.declared.named.Written.{Written}
 use Rattle.wasm_text.specs.declared.named.Written.TheVariants as written
-use Rattle.wasm_text.specs.declared.named.WrittenExpr.{WrittenExpr}
 use Rattle.wasm_text.specs.declared.keywords.Keyword.{Keyword}
 use Rattle.wasm_text.specs.declared.keywords.Keyword.TheVariants.{Alone, Index, TableIndex, Load, Store, Const32, Const64, BrTable, CallIndirect, RefNull, Select, TableInit, TableCopy, Block, Loop, If}
 use Rattle.wasm_text.specs.Integers.{Literal, NoNumber, OutOfRange, Number, count_of}
 use Rattle.wasm_text.specs.Keywords.{keyword_of, own_alignment}
-use Rattle.wasm_text.specs.TokenForms.{Form, gives, next_is, opens, is_word, is_open}
+use Rattle.wasm_text.specs.TokenForms.{is_word, is_open}
 use Rattle.wasm_text.specs.TextValues.{idx_follows, is_identifier}
 use Rattle.wasm_text.specs.TextTypes.{block_use, begins_with}
-use Rattle.wasm_text.specs.TextInstructions.{Labels, or_zero, is_label, exponent_or, label, label_again, names_label, one_index, table_index, some_number, number_after, exponent_below, power_of_two, told_power, alignment, access, constant, branch_table, call_indirect, null_of, select, with_elem, table_init, table_copy, operands, Sequence, all_of, Part, Instructions, Folded, Conditions, Parts, no_instruction, block, second_part, maybe_else, if_block, plain, unfolded_of, folded_block, folded_else, no_else, maybe_folded_else, folded_branches, folded_if, folded_plain, folded_of, folded, unfolded, more_of, one_of, parts_below, enough, instructions_here, instructions, one_folded_here, one_folded}
-use Rattle.wasm_text.proofs.FormLaws.{Moves, weaker, goes, after, before_taken, after_taken, below_taken, if_moves, gives_moves, source_moves, next_is_moves, next_word_moves, opens_moves, want_moves, pass_moves, opening_moves, closing_moves, keyword_moves, pass_two_moves, parts_end_moves, as_long_moves}
+use Rattle.wasm_text.specs.TextInstructions.{Labels, or_zero, is_label, exponent_or, label, label_again, names_label, one_index, some_number, number_after, exponent_below, power_of_two, told_power, alignment, access, constant, branch_table, call_indirect, null_of, table_init, table_copy, operands, Sequence, Part, Instructions, Folded, Conditions, Parts, no_instruction, block, maybe_else, if_block, plain, unfolded_of, folded_block, maybe_folded_else, folded_branches, folded_if, folded_plain, folded_of, folded, unfolded, more_of, one_of, parts_below, instructions, one_folded}
+use Rattle.wasm_text.proofs.FormLaws.{Moves, goes, after, before_taken, after_taken, below_taken, if_moves, gives_moves, source_moves, next_is_moves, next_word_moves, opens_moves, want_moves, pass_moves, opening_moves, closing_moves, keyword_moves, pass_two_moves, parts_end_moves, as_long_moves}
 use Rattle.wasm_text.proofs.ValueMoves.{out_of_range_moves, passed_moves, integer_moves, maybe_id_moves, idx_moves, idx_follows_moves, table_idx_moves, outside_moves, told_moves, result_parts_moves, use_moves}
 
 -- ---- what follows a word

@@ -9,3 +9,4 @@ pub mod TokenLaws
 pub mod ValueMoves
 pub mod InstructionMoves
 pub mod FieldMoves
+pub mod NameLaws

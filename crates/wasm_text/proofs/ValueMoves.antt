@@ -1,14 +1,14 @@
 -- Forms of values and types end, one after another.
-use Rattle.std.proofs.Common.{ℕ, zero, suc, ◌+◌, ◌<◌, length, Bool, true, List, [], ◌∷◌, Option, Some, None, refl, arith}
-use Rattle.std.specs.Prelude.{nat_le, ◌&&◌, map, flat_map, codes, if◌then◌else◌}
+use Rattle.std.proofs.Common.{ℕ, zero, suc, ◌+◌, length, Bool, true, Option, Some, None, refl, arith}
+use Rattle.std.specs.Prelude.{nat_le, codes}
 use Rattle.std.specs.Str.{is_utf8}
 use Rattle.wasm_text.specs.declared.bad.TextBad.TheVariants.{Utf8, Range, Outside, Locals}
 use Rattle.wasm_text.specs.Integers.{Literal, NoNumber, OutOfRange, Number, count_of, integer_of}
-use Rattle.wasm_text.specs.TokenForms.{Form, gives, next_is, opens, is_word, is_open, is_string}
-use Rattle.wasm_text.specs.TextValues.{out_of_range, literal, u32, integer, string, name, id, some_id, maybe_id, called, numbered, idx, idx_follows, table_idx}
+use Rattle.wasm_text.specs.TokenForms.{Form, next_is, opens, is_word, is_open, is_string}
+use Rattle.wasm_text.specs.TextValues.{out_of_range, literal, u32, integer, string, name, id, maybe_id, idx, idx_follows, table_idx}
 use Rattle.wasm_text.specs.TextInstructions.{passed}
-use Rattle.wasm_text.specs.TextTypes.{outside, told, ref_type, val_type, val_types, some_u32, limits, table_type, mutable_type, constant_type, global_type, unnamed_params, named_param, param_part, params, result_part, result_parts, results, func_type, named_type, maybe_type, use_of, few, local_type, local_types_below, local_types, named_local, local_part, locals_below, locals}
-use Rattle.wasm_text.proofs.FormLaws.{Moves, weaker, goes, after, before_taken, after_taken, below_taken, if_moves, gives_moves, fails_moves, ahead_moves, source_moves, next_is_moves, next_word_moves, opens_moves, place_moves, want_moves, pass_moves, token_of_moves, opening_moves, closing_moves, keyword_moves, pass_two_moves, parts_end_moves, as_long_moves, keeps_moves}
+use Rattle.wasm_text.specs.TextTypes.{outside, told, ref_type, val_type, val_types, limits, table_type, mutable_type, global_type, param_part, params, result_part, result_parts, results, func_type, named_type, use_of, few, local_type, local_types_below, local_types, local_part, locals_below, locals}
+use Rattle.wasm_text.proofs.FormLaws.{Moves, goes, after, before_taken, after_taken, below_taken, if_moves, gives_moves, fails_moves, source_moves, next_is_moves, next_word_moves, opens_moves, place_moves, want_moves, pass_moves, token_of_moves, opening_moves, closing_moves, keyword_moves, pass_two_moves, parts_end_moves, as_long_moves, keeps_moves}
 
 -- ---- values
 
