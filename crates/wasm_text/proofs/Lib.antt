@@ -1,12 +1,12 @@
 pub mod CommentLaws
+pub mod FieldMoves
 pub mod FormLaws
 pub mod GapLaws
+pub mod InstructionMoves
+pub mod NameLaws
 pub mod NextLaws
 pub mod StringFound
 pub mod StringLaws
 pub mod TextLaws
 pub mod TokenLaws
 pub mod ValueMoves
-pub mod InstructionMoves
-pub mod FieldMoves
-pub mod NameLaws
