@@ -7,7 +7,7 @@ use Rattle.wasm_text.specs.declared.tokens.LexBad.{LexBad}
 use Rattle.wasm_text.specs.declared.bad.TextBad.{TextBad}
 use Rattle.wasm_text.specs.declared.bad.TextBad.TheVariants.{NoMemory, Want}
 use Rattle.wasm_text.specs.declared.named.Use.{Use}
-use Rattle.wasm_text.specs.TokenForms.{Form, Rest, ◌>>=◌, gives, fails, read_on, ahead, inside, source, first_of, inside_of, is_open, is_close, is_string, looked, next_is, next_word, word_inside, opens, place, want, pass, pass_from, token_of, opening, closing, keyword, pass_two, unfit, parts_end, as_long_below, as_long, keeps}
+use Rattle.wasm_text.specs.TokenForms.{Form, Rest, ◌>>=◌, gives, fails, read_on, ahead, inside, source, first_of, inside_of, is_open, is_close, looked, next_is, next_word, word_inside, opens, place, want, pass, pass_from, token_of, opening, closing, keyword, pass_two, unfit, parts_end, as_long_below, as_long, keeps}
 
 abbrev pub is_memory : TextBad → Bool
 is_memory NoMemory = true

@@ -100,14 +100,15 @@ abbrev pub exponent_or : ℕ → Option ℕ → ℕ
 exponent_or own None = own
 exponent_or own (Some k) = k
 
+abbrev pub told_power : Option ℕ → Form (Option ℕ)
+told_power None = out_of_range
+told_power (Some k) = passed (Some k)
+
 -- the exponent of a number that is a power of two from 1 to 2 ^ 31
 abbrev pub power_of_two : Literal → Form (Option ℕ)
 power_of_two NoNumber = gives None
 power_of_two OutOfRange = out_of_range
-power_of_two (Number n) = told_power (exponent_below 32 n) where
-  told_power : Option ℕ → Form (Option ℕ)
-  told_power None = out_of_range
-  told_power (Some k) = passed (Some k)
+power_of_two (Number n) = told_power (exponent_below 32 n)
 
 abbrev pub alignment : ℕ → Form ℕ
 alignment own = do

@@ -9,7 +9,7 @@ ghost use Rattle.wasm_text.specs.Texts.{IsText, TextFault};
 ghost use Rattle.wasm_text.specs.declared.tokens.TokenKind.TheVariants.{Word};
 ghost use Rattle.wasm_ast.specs.declared.modules.Module.{Module as OneModule};
 ghost use Rattle.wasm_text.specs.declared.bad.TextBad.{TextBad as WhyBad};
-ghost use Rattle.wasm_text.specs.declared.bad.TextBad.TheVariants.{Want, Outside, Range, Unknown, Twice, Use as UseBad};
+ghost use Rattle.wasm_text.specs.declared.bad.TextBad.TheVariants.{Want, Outside, Range, Unknown, Twice, Use as UseBad, NoMemory};
 ghost use Rattle.wasm_ast.specs.declared.instructions.Instr.TheVariants.{Const32};
 ghost use Rattle.wasm_ast.specs.Straight.{straight_module};
 ghost use Rattle.wasm_text.specs.Lexing.{comment_end, string_end, next_token, AreTokens};
@@ -70,6 +70,11 @@ pub fn text_is_unique()
 /// Law: a text of fewer than 2^32 bytes in UTF-8 is of a module, or it has a first trouble.
 pub fn text_is_decided()
     ensures { (text : List ℕ) → IsUtf8 text → length text < 2 ^ 32 → ((m : OneModule) × IsText m text) ⊎ ((bad : WhyBad) × TextFault text bad) }
+{}
+
+/// Law: want of memory is no first trouble of a text.
+pub fn text_faults_are_told()
+    ensures { (text : List ℕ) → TextFault text NoMemory → ⊥ }
 {}
 
 /// Small texts are of the modules that they should be of, and others have the first troubles that they should have.
