@@ -8,7 +8,7 @@ use Rattle.refute_check.specs.Clauses.{Assignment}
 use Rattle.bit_blast.specs.Gates.{Wires}
 use Rattle.bit_blast.specs.Blocks.{add, negate_if, count, divide, multiply, choose}
 use Rattle.bit_blast.specs.Operators.{unary_operator, binary_operator}
-use Rattle.bit_blast.specs.Meanings.{holds, bit, number_of}
+use Rattle.bit_blast.specs.Meanings.{holds, bit, value_of_wires}
 use Rattle.bit_blast.specs.BlockLaws.{true_among, AddLaw, LessLaw, NoneLaw, NegateLaw, CountLaw, DivideLaw, MultiplyLaw, ChooseLaw, UnaryLaw, BinaryLaw}
 use Rattle.bit_blast.proofs.BitNumbers.{number}
 use Rattle.bit_blast.proofs.SumLemmas.{sums, carried, number_sums, negation_is}
@@ -74,7 +74,7 @@ pub choose_law : ChooseLaw
 choose_law condition xs ys some long s c one h =
     number_read s (choose condition xs ys c).result ∙ (choose_reads s one condition xs ys c some long h).1
     ∙ ap (λ (n : ℕ). chosen n (number (read s xs)) (number (read s ys))) (sym (number_read s condition))
-    ∙ ap₂ (λ (x y : ℕ). chosen (number_of s condition) x y) (sym (number_read s xs)) (sym (number_read s ys))
+    ∙ ap₂ (λ (x y : ℕ). chosen (value_of_wires s condition) x y) (sym (number_read s xs)) (sym (number_read s ys))
 
 pub unary_law : UnaryLaw
 unary_law op xs class long s c one h =

@@ -1,7 +1,7 @@
 -- The clauses of a gate are met exactly where it has its value.
 use Rattle.std.proofs.Common.{◌≡◌, ℕ, ◌+◌, Bool, true, false, not, ◌&&◌, ◌||◌, if◌then◌else◌, IsTrue, ◌⊎◌, inl, inr, List, [], ◌∷◌, ◌++◌, length, refl, sym, ap, ◌∙◌, subst}
 use Rattle.std.proofs.lemmas.Bool.{false≢true}
-use Rattle.refute_check.specs.Clauses.{Clause, Assignment, Holds, Meets, MeetsAll, positive, negative, variable_of, sign_of}
+use Rattle.refute_check.specs.Clauses.{Clause, Assignment, HasLiteral, Satisfies, SatisfiesAll, positive, negative, variable_of, sign_of}
 use Rattle.refute_check.specs.Resolution.{each_once}
 use Rattle.refute_check.proofs.Membership.{has-holds, holds-has, has-each_once}
 use Rattle.bit_blast.specs.declared.gates.Gate.{Gate}
@@ -33,54 +33,54 @@ abbrev pub any : Assignment → Clause → Bool
 any s [] = false
 any s (l ∷ clause) = holds s l || any s clause
 
-or_left : (a b : Bool) → IsTrue a → IsTrue (a || b)
+pub or_left : (a b : Bool) → IsTrue a → IsTrue (a || b)
 or_left true b h = refl
 or_left false b h = absurd (false≢true h)
 
-or_right : (a b : Bool) → IsTrue b → IsTrue (a || b)
+pub or_right : (a b : Bool) → IsTrue b → IsTrue (a || b)
 or_right true b h = refl
 or_right false b h = h
 
-or_cases : (a b : Bool) → IsTrue (a || b) → IsTrue a ⊎ IsTrue b
+pub or_cases : (a b : Bool) → IsTrue (a || b) → IsTrue a ⊎ IsTrue b
 or_cases true b h = inl refl
 or_cases false b h = inr h
 
-holds-any : (s : Assignment) (l : ℕ) (clause : Clause) → Holds l clause → IsTrue (holds s l) → IsTrue (any s clause)
+holds-any : (s : Assignment) (l : ℕ) (clause : Clause) → HasLiteral l clause → IsTrue (holds s l) → IsTrue (any s clause)
 holds-any s l [] h t = absurd h
 holds-any s l (k ∷ clause) (inl e) t = or_left (holds s k) (any s clause) (subst (λ (n : ℕ). IsTrue (holds s n)) e t)
 holds-any s l (k ∷ clause) (inr h) t = or_right (holds s k) (any s clause) (holds-any s l clause h t)
 
-pub meets-any : (s : Assignment) (clause : Clause) → Meets s clause → IsTrue (any s clause)
+pub meets-any : (s : Assignment) (clause : Clause) → Satisfies s clause → IsTrue (any s clause)
 meets-any s clause m = holds-any s m.0 clause m.1 (made_true s m.0 m.2)
 
-pub any-meets : (s : Assignment) (clause : Clause) → IsTrue (any s clause) → Meets s clause
+pub any-meets : (s : Assignment) (clause : Clause) → IsTrue (any s clause) → Satisfies s clause
 any-meets s [] h = absurd (false≢true h)
 any-meets s (k ∷ clause) h = go (λ h. any-meets s clause h) (or_cases (holds s k) (any s clause) h)
   where
-    go : (IsTrue (any s clause) → Meets s clause) → IsTrue (holds s k) ⊎ IsTrue (any s clause) → Meets s (k ∷ clause)
+    go : (IsTrue (any s clause) → Satisfies s clause) → IsTrue (holds s k) ⊎ IsTrue (any s clause) → Satisfies s (k ∷ clause)
     go rec (inl t) = (k, inl refl, true_made s k t)
     go rec (inr t) = let m = rec t in (m.0, inr m.1, m.2)
 
 -- repeated literals change nothing
-pub once-meets : (s : Assignment) (clause : Clause) → Meets s (each_once clause) → Meets s clause
+pub once-meets : (s : Assignment) (clause : Clause) → Satisfies s (each_once clause) → Satisfies s clause
 once-meets s clause m = (m.0, has-holds clause m.0 (sym (has-each_once clause m.0) ∙ holds-has (each_once clause) m.0 m.1), m.2)
 
-pub meets-once : (s : Assignment) (clause : Clause) → Meets s clause → Meets s (each_once clause)
+pub meets-once : (s : Assignment) (clause : Clause) → Satisfies s clause → Satisfies s (each_once clause)
 meets-once s clause m = (m.0, has-holds (each_once clause) m.0 (has-each_once clause m.0 ∙ holds-has clause m.0 m.1), m.2)
 
 -- clauses of two and of three literals, whose values are these
-two : (s : Assignment) (k l : ℕ) (a b : Bool) → holds s k ≡ a → holds s l ≡ b → Meets s (each_once (k ∷ l ∷ [])) → IsTrue (a || (b || false))
+two : (s : Assignment) (k l : ℕ) (a b : Bool) → holds s k ≡ a → holds s l ≡ b → Satisfies s (each_once (k ∷ l ∷ [])) → IsTrue (a || (b || false))
 two s k l a b e f m = subst (λ (x : Bool). IsTrue (a || (x || false))) f (subst (λ (x : Bool). IsTrue (x || (holds s l || false))) e (meets-any s (k ∷ l ∷ []) (once-meets s (k ∷ l ∷ []) m)))
 
-from_two : (s : Assignment) (k l : ℕ) (a b : Bool) → holds s k ≡ a → holds s l ≡ b → IsTrue (a || (b || false)) → Meets s (each_once (k ∷ l ∷ []))
+from_two : (s : Assignment) (k l : ℕ) (a b : Bool) → holds s k ≡ a → holds s l ≡ b → IsTrue (a || (b || false)) → Satisfies s (each_once (k ∷ l ∷ []))
 from_two s k l a b e f h = meets-once s (k ∷ l ∷ []) (any-meets s (k ∷ l ∷ []) (subst (λ (x : Bool). IsTrue (x || (holds s l || false))) (sym e) (subst (λ (x : Bool). IsTrue (a || (x || false))) (sym f) h)))
 
-three : (s : Assignment) (k l m : ℕ) (a b c : Bool) → holds s k ≡ a → holds s l ≡ b → holds s m ≡ c → Meets s (each_once (k ∷ l ∷ m ∷ [])) → IsTrue (a || (b || (c || false)))
+three : (s : Assignment) (k l m : ℕ) (a b c : Bool) → holds s k ≡ a → holds s l ≡ b → holds s m ≡ c → Satisfies s (each_once (k ∷ l ∷ m ∷ [])) → IsTrue (a || (b || (c || false)))
 three s k l m a b c e f g h =
     subst (λ (x : Bool). IsTrue (a || (b || (x || false)))) g (subst (λ (x : Bool). IsTrue (a || (x || (holds s m || false)))) f (subst (λ (x : Bool). IsTrue (x || (holds s l || (holds s m || false)))) e
     (meets-any s (k ∷ l ∷ m ∷ []) (once-meets s (k ∷ l ∷ m ∷ []) h))))
 
-from_three : (s : Assignment) (k l m : ℕ) (a b c : Bool) → holds s k ≡ a → holds s l ≡ b → holds s m ≡ c → IsTrue (a || (b || (c || false))) → Meets s (each_once (k ∷ l ∷ m ∷ []))
+from_three : (s : Assignment) (k l m : ℕ) (a b c : Bool) → holds s k ≡ a → holds s l ≡ b → holds s m ≡ c → IsTrue (a || (b || (c || false))) → Satisfies s (each_once (k ∷ l ∷ m ∷ []))
 from_three s k l m a b c e f g h =
     meets-once s (k ∷ l ∷ m ∷ []) (any-meets s (k ∷ l ∷ m ∷ []) (subst (λ (x : Bool). IsTrue (x || (holds s l || (holds s m || false)))) (sym e) (subst (λ (x : Bool). IsTrue (a || (x || (holds s m || false)))) (sym f)
     (subst (λ (x : Bool). IsTrue (a || (b || (x || false)))) (sym g) h))))
@@ -213,7 +213,7 @@ same_back false false e = (cc, cc)
 
 -- ---- the clauses of gates
 
-pub gate_meets : (s : Assignment) (z : ℕ) (gate : Gate) → MeetsAll s (gate_clauses z gate) → s z ≡ gate_value s gate
+pub gate_meets : (s : Assignment) (z : ℕ) (gate : Gate) → SatisfiesAll s (gate_clauses z gate) → s z ≡ gate_value s gate
 gate_meets s z (And a b) h =
     and_table (s z) (holds s a) (holds s b)
     (two s (negative z) a (not (s z)) (holds s a) (holds_negative s z) refl h.0)
@@ -244,7 +244,7 @@ gate_meets s z (Same a) h =
     (two s (negative z) a (not (s z)) (holds s a) (holds_negative s z) refl h.0)
     (two s (positive z) (negation a) (s z) (not (holds s a)) (holds_positive s z) (holds_negation s a) h.1.0)
 
-pub meets_gate : (s : Assignment) (z : ℕ) (gate : Gate) → s z ≡ gate_value s gate → MeetsAll s (gate_clauses z gate)
+pub meets_gate : (s : Assignment) (z : ℕ) (gate : Gate) → s z ≡ gate_value s gate → SatisfiesAll s (gate_clauses z gate)
 meets_gate s z (And a b) e =
     let t = and_back (s z) (holds s a) (holds s b) e in (
       from_two s (negative z) a (not (s z)) (holds s a) (holds_negative s z) refl t.0,
@@ -315,26 +315,26 @@ meets_gate s z (Same a) e =
 
 -- ---- clauses of many gates
 
-pub meets_all-append : (s : Assignment) (first second : List Clause) → MeetsAll s first → MeetsAll s second → MeetsAll s (first ++ second)
+pub meets_all-append : (s : Assignment) (first second : List Clause) → SatisfiesAll s first → SatisfiesAll s second → SatisfiesAll s (first ++ second)
 meets_all-append s [] second h k = k
 meets_all-append s (clause ∷ first) second h k = (h.0, meets_all-append s first second h.1 k)
 
-pub meets_all-first : (s : Assignment) (first second : List Clause) → MeetsAll s (first ++ second) → MeetsAll s first
+pub meets_all-first : (s : Assignment) (first second : List Clause) → SatisfiesAll s (first ++ second) → SatisfiesAll s first
 meets_all-first s [] second h = tt
 meets_all-first s (clause ∷ first) second h = (h.0, meets_all-first s first second h.1)
 
-pub meets_all-second : (s : Assignment) (first second : List Clause) → MeetsAll s (first ++ second) → MeetsAll s second
+pub meets_all-second : (s : Assignment) (first second : List Clause) → SatisfiesAll s (first ++ second) → SatisfiesAll s second
 meets_all-second s [] second h = h
 meets_all-second s (clause ∷ first) second h = meets_all-second s first second h.1
 
-pub gates_meet : (s : Assignment) (first : ℕ) (gates : List Gate) → MeetsAll s (clauses_from first gates) → HaveValues s first gates
+pub gates_meet : (s : Assignment) (first : ℕ) (gates : List Gate) → SatisfiesAll s (clauses_from first gates) → HaveValues s first gates
 gates_meet s first [] h = tt
 gates_meet s first (gate ∷ earlier) h = (
   gate_meets s (first + length earlier) gate (meets_all-second s (clauses_from first earlier) (gate_clauses (first + length earlier) gate) h),
   gates_meet s first earlier (meets_all-first s (clauses_from first earlier) (gate_clauses (first + length earlier) gate) h),
 )
 
-pub meet_gates : (s : Assignment) (first : ℕ) (gates : List Gate) → HaveValues s first gates → MeetsAll s (clauses_from first gates)
+pub meet_gates : (s : Assignment) (first : ℕ) (gates : List Gate) → HaveValues s first gates → SatisfiesAll s (clauses_from first gates)
 meet_gates s first [] h = tt
 meet_gates s first (gate ∷ earlier) h =
     meets_all-append s (clauses_from first earlier) (gate_clauses (first + length earlier) gate) (meet_gates s first earlier h.1) (meets_gate s (first + length earlier) gate h.0)

@@ -2,7 +2,7 @@
 use Rattle.std.proofs.Common.{◌≡◌, ℕ, zero, suc, ◌+◌, ◌-◌, ◌<◌, ◌≤◌, Bool, true, false, cond, not, ◌==◌, ◌⊎◌, inl, inr, ⊎_elim, List, [], ◌∷◌, ◌++◌, length, map, flat_map, reverse, refl, sym, ap, ◌∙◌, subst, arith, ap₂, length-append, Option, Some, None}
 use Rattle.std.proofs.lemmas.Bool.{cases_lt, cases_eq}
 use Rattle.bv_terms.specs.Terms.{Term}
-use Rattle.refute_check.specs.Clauses.{Clause, Holds, positive, negative, variable_of}
+use Rattle.refute_check.specs.Clauses.{Clause, HasLiteral, positive, negative, variable_of}
 use Rattle.refute_check.specs.Resolution.{each_once, without}
 use Rattle.refute_check.specs.Orders.{Names, NamesAll}
 use Rattle.refute_check.proofs.Membership.{variable-positive}
@@ -10,7 +10,7 @@ use Rattle.bit_blast.specs.declared.gates.Gate.{Gate}
 use Rattle.bit_blast.specs.declared.gates.Gate.TheVariants.{And, Xor, Mux, Maj, Same}
 use Rattle.bit_blast.specs.Gates.{Wires, negation, gate_clauses, Circuit, next_of, clauses_from}
 use Rattle.bit_blast.specs.Blocks.{Built, put, put_all}
-use Rattle.bit_blast.specs.Formulas.{Condition, Known, wires_in, terms_in_order, build_terms, build_first, Parts, built, start, variables_from, condition_clauses, decisions, formula}
+use Rattle.bit_blast.specs.Formulas.{Condition, Known, wires_in, terms_in_order, build_terms, build_first, FormulaParts, built, start, variables_from, condition_clauses, decisions, formula}
 use Rattle.bit_blast.specs.Meanings.{AreProper, CanBeLeast}
 use Rattle.bit_blast.proofs.LengthLemmas.{length_map, length_put_all}
 use Rattle.bit_blast.proofs.RangeLemmas.{IsWire, AreWires, GateWires, IsRanged, gate-later, wire-negation, true-wire}
@@ -68,7 +68,7 @@ put_all_names (gate ∷ gates) c =
     )
 
 -- the last gates, from a variable on, are those of what is to be least
-pub record Last (all : Built Parts) : Type 0 where
+pub record Last (all : Built FormulaParts) : Type 0 where
   pub from : ℕ
   pub names : map variable_of all.result.least ≡ variables_from from (length all.result.least)
   pub ends : from + length all.result.least ≡ next_of all.circuit
@@ -102,22 +102,22 @@ all_last conditions draws first =
 
 -- ---- the order
 
-abbrev pub order_of : Built Parts → List ℕ
+abbrev pub order_of : Built FormulaParts → List ℕ
 order_of all = decisions all.circuit all.result.least
 
-abbrev least_names : Built Parts → List ℕ
+abbrev least_names : Built FormulaParts → List ℕ
 least_names all = map variable_of all.result.least
 
-abbrev symbol_names : Built Parts → List ℕ
+abbrev symbol_names : Built FormulaParts → List ℕ
 symbol_names all = variables_from 2 (all.circuit.first - 2)
 
-abbrev others : Built Parts → ℕ
+abbrev others : Built FormulaParts → ℕ
 others all = length all.circuit.gates - length all.result.least
 
-abbrev other_names : Built Parts → List ℕ
+abbrev other_names : Built FormulaParts → List ℕ
 other_names all = variables_from all.circuit.first (others all)
 
-module _ (all : Built Parts) (two_first : 2 ≤ all.circuit.first) (last : Last all) where
+module _ (all : Built FormulaParts) (two_first : 2 ≤ all.circuit.first) (last : Last all) where
   pub order_length : length (order_of all) ≡ next_of all.circuit - 1
   order_length =
       let ends = last.ends in
@@ -192,7 +192,7 @@ literals-append : (m : ℕ) (xs ys : List Clause) → LiteralsBelow m xs → Lit
 literals-append m [] ys h k = k
 literals-append m (x ∷ xs) ys h k = (h.0, literals-append m xs ys h.1 k)
 
-held-wire : (m : ℕ) (clause : Clause) (l : ℕ) → AreWires m clause → Holds l clause → IsWire m l
+held-wire : (m : ℕ) (clause : Clause) (l : ℕ) → AreWires m clause → HasLiteral l clause → IsWire m l
 held-wire m [] l i h = absurd h
 held-wire m (k ∷ clause) l i (inl e) = subst (λ (n : ℕ). IsWire m n) (sym e) i.0
 held-wire m (k ∷ clause) l i (inr h) = held-wire m clause l i.1 h

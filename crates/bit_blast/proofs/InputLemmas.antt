@@ -10,7 +10,7 @@ use Rattle.bit_blast.specs.declared.gates.Gate.{Gate}
 use Rattle.bit_blast.specs.declared.gates.Gate.TheVariants.{And, Xor, Mux, Maj, Same}
 use Rattle.bit_blast.specs.Gates.{Wires, next_of}
 use Rattle.bit_blast.specs.Formulas.{Condition, symbols_end, falling_wires, built}
-use Rattle.bit_blast.specs.Meanings.{holds, bit, differ, gate_value, number_of, HaveValues, input_from, input_of, IsAnswered, AreProper, CanBeLeast, Computes}
+use Rattle.bit_blast.specs.Meanings.{holds, bit, differ, gate_value, value_of_wires, HaveValues, input_from, input_of, IsAnswered, AreProper, CanBeLeast, Computes}
 use Rattle.bit_blast.specs.Inputs.{IsInput}
 use Rattle.bit_blast.proofs.BitNumbers.{number, lowest}
 use Rattle.bit_blast.proofs.NumberLemmas.{bit_lowest, same_bits, number_below}
@@ -214,7 +214,7 @@ input-agree s t from (wide ∷ draws) e v low high = one_more (input-agree s t (
         → (v < from + bits_where wide) ⊎ (from + bits_where wide ≤ v) → s v ≡ t v
     one_more rec (inl h) =
         let wires : Wires = falling_wires from (bits_where wide) in
-        let head : number_of s wires ≡ number_of t wires = cc in
+        let head : value_of_wires s wires ≡ value_of_wires t wires = cc in
         let numbers : number (read s wires) ≡ number (read t wires) = sym (number_read s wires) ∙ head ∙ number_read t wires in
         falling-agree s t from (bits_where wide) (same_bits (read s wires) (read t wires) (length_read s wires ∙ sym (length_read t wires)) numbers) v low h
     one_more rec (inr h) = let tails : input_from s (from + bits_where wide) draws ≡ input_from t (from + bits_where wide) draws = cc in rec tails v h high

@@ -3,7 +3,7 @@ use Rattle.std.proofs.Common.{◌≡◌, ◌≢◌, ℕ, ◌+◌, ◌*◌, Bool,
 use Rattle.std.proofs.lemmas.Bool.{false≢true}
 use Rattle.std.proofs.lemmas.List.Elements.{All-head, All-tail, All-cons, All-nil}
 use Rattle.bv_terms.specs.Terms.{Term, value_of}
-use Rattle.refute_check.specs.Clauses.{Clause, Assignment, Meets, MeetsAll}
+use Rattle.refute_check.specs.Clauses.{Clause, Assignment, Satisfies, SatisfiesAll}
 use Rattle.bit_blast.specs.Gates.{Wires, true_wire, negation, clauses_from}
 use Rattle.bit_blast.specs.Formulas.{Condition, Known, wires_in, condition_clauses, built, formula}
 use Rattle.bit_blast.specs.Meanings.{holds, bit, input_of, IsAnswered, AreProper, CanBeLeast, Computes}
@@ -33,7 +33,7 @@ some-any s (w ∷ ws) h = go (holds s w) (λ h. some-any s ws h) h
     go false rec h = rec (λ e. h (omega arith))
 
 -- none is where it is 0
-none-zero : (s : Assignment) (ws : Wires) → MeetsAll s (map (λ wire. negation wire ∷ []) ws) → number (read s ws) ≡ 0
+none-zero : (s : Assignment) (ws : Wires) → SatisfiesAll s (map (λ wire. negation wire ∷ []) ws) → number (read s ws) ≡ 0
 none-zero s [] h = refl
 none-zero s (w ∷ ws) h =
     let rest = none-zero s ws h.1 in
@@ -47,15 +47,15 @@ none-zero s (w ∷ ws) h =
     go true n e f g = cc
     go false n e f g = omega arith
 
-zero-none : (s : Assignment) (ws : Wires) → number (read s ws) ≡ 0 → MeetsAll s (map (λ wire. negation wire ∷ []) ws)
+zero-none : (s : Assignment) (ws : Wires) → number (read s ws) ≡ 0 → SatisfiesAll s (map (λ wire. negation wire ∷ []) ws)
 zero-none s [] e = tt
 zero-none s (w ∷ ws) e = go (holds s w) refl (λ e. zero-none s ws e) e
   where
-    clear : holds s w ≡ false → Meets s (negation w ∷ [])
+    clear : holds s w ≡ false → Satisfies s (negation w ∷ [])
     clear f = any-meets s (negation w ∷ []) (subst (λ (b : Bool). IsTrue (b || false)) (sym (holds_negation s w ∙ ap not f)) refl)
 
-    go : (b : Bool) → holds s w ≡ b → (number (read s ws) ≡ 0 → MeetsAll s (map (λ wire. negation wire ∷ []) ws)) → bit b + 2 * number (read s ws) ≡ 0
-        → MeetsAll s (map (λ wire. negation wire ∷ []) (w ∷ ws))
+    go : (b : Bool) → holds s w ≡ b → (number (read s ws) ≡ 0 → SatisfiesAll s (map (λ wire. negation wire ∷ []) ws)) → bit b + 2 * number (read s ws) ≡ 0
+        → SatisfiesAll s (map (λ wire. negation wire ∷ []) (w ∷ ws))
     go true f rec e = absurd (omega arith)
     go false f rec e = (clear f, rec (omega arith))
 
@@ -66,19 +66,19 @@ abbrev Right : Assignment → List ℕ → Known → Condition → Type 0
 Right s input known condition = number (read s (wires_in known condition.0)) ≡ value_of input condition.0
 
 condition-answered : (s : Assignment) (input : List ℕ) (known : Known) (condition : Condition) → Right s input known condition
-    → MeetsAll s (condition_clauses known condition) → IsAnswered input condition
+    → SatisfiesAll s (condition_clauses known condition) → IsAnswered input condition
 condition-answered s input known (t, true) right h =
     subst (λ (n : ℕ). n ≢ 0) right (any-some s (wires_in known t) (meets-any s (wires_in known t) (once-meets s (wires_in known t) h.0)))
 condition-answered s input known (t, false) right h = sym right ∙ none-zero s (wires_in known t) h
 
 answered-condition : (s : Assignment) (input : List ℕ) (known : Known) (condition : Condition) → Right s input known condition
-    → IsAnswered input condition → MeetsAll s (condition_clauses known condition)
+    → IsAnswered input condition → SatisfiesAll s (condition_clauses known condition)
 answered-condition s input known (t, true) right h =
     (meets-once s (wires_in known t) (any-meets s (wires_in known t) (some-any s (wires_in known t) (subst (λ (n : ℕ). n ≢ 0) (sym right) h))), tt)
 answered-condition s input known (t, false) right h = zero-none s (wires_in known t) (right ∙ h)
 
 conditions-answered : (s : Assignment) (input : List ℕ) (known : Known) (conditions : List Condition) → All (Right s input known) conditions
-    → MeetsAll s (flat_map (condition_clauses known) conditions) → All (IsAnswered input) conditions
+    → SatisfiesAll s (flat_map (condition_clauses known) conditions) → All (IsAnswered input) conditions
 conditions-answered s input known [] right h = All-nil (IsAnswered input)
 conditions-answered s input known (condition ∷ conditions) right h =
     All-cons (IsAnswered input) condition conditions
@@ -88,7 +88,7 @@ conditions-answered s input known (condition ∷ conditions) right h =
     (meets_all-second s (condition_clauses known condition) (flat_map (condition_clauses known) conditions) h))
 
 answered-conditions : (s : Assignment) (input : List ℕ) (known : Known) (conditions : List Condition) → All (Right s input known) conditions
-    → All (IsAnswered input) conditions → MeetsAll s (flat_map (condition_clauses known) conditions)
+    → All (IsAnswered input) conditions → SatisfiesAll s (flat_map (condition_clauses known) conditions)
 answered-conditions s input known [] right h = tt
 answered-conditions s input known (condition ∷ conditions) right h =
     meets_all-append s (condition_clauses known condition) (flat_map (condition_clauses known) conditions)
@@ -113,7 +113,7 @@ module _ (s : Assignment) (conditions : List Condition) (draws : List Bool) (fir
   alone true h = refl
   alone false h = absurd (false≢true h)
 
-  pub meets-computes : MeetsAll s (formula conditions draws first).clauses → Computes conditions draws first s
+  pub meets-computes : SatisfiesAll s (formula conditions draws first).clauses → Computes conditions draws first s
   unfolding gates asked
   meets-computes h =
       let o = in_order draws conditions first proper least in
@@ -127,7 +127,7 @@ module _ (s : Assignment) (conditions : List Condition) (draws : List Bool) (fir
         valued = values;
       }
 
-  pub computes-meets : Computes conditions draws first s → MeetsAll s (formula conditions draws first).clauses
+  pub computes-meets : Computes conditions draws first s → SatisfiesAll s (formula conditions draws first).clauses
   unfolding gates asked
   computes-meets c =
       let o = in_order draws conditions first proper least in (

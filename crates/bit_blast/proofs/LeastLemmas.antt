@@ -12,7 +12,7 @@ use Rattle.bit_blast.specs.declared.gates.Gate.TheVariants.{Same}
 use Rattle.bit_blast.specs.Gates.{Wires, Circuit, next_of}
 use Rattle.bit_blast.specs.Blocks.{put, put_all}
 use Rattle.bit_blast.specs.Formulas.{Condition, wires_in, symbols_end, falling_wires, variables_from, build_terms, terms_in_order, start, built, formula}
-use Rattle.bit_blast.specs.Meanings.{bit, number_of, input_from, input_of, AreProper, CanBeLeast, Computes}
+use Rattle.bit_blast.specs.Meanings.{bit, value_of_wires, input_from, input_of, AreProper, CanBeLeast, Computes}
 use Rattle.bit_blast.specs.Inputs.{IsBefore}
 use Rattle.bit_blast.proofs.CountLemmas.{number_down, number_down_below, number_reversed}
 use Rattle.bit_blast.proofs.WireLemmas.{read, number_read, holds_positive}
@@ -87,7 +87,7 @@ falling-down s first (suc bits) =
     map-last f [] x = refl
     map-last f (y ∷ xs) x = ap (λ (bs : List Bool). f y ∷ bs) (map-last f xs x)
 
-pub symbol-number : (s : Assignment) (first bits : ℕ) → number_of s (falling_wires first bits) ≡ number_down (map s (variables_from first bits))
+pub symbol-number : (s : Assignment) (first bits : ℕ) → value_of_wires s (falling_wires first bits) ≡ number_down (map s (variables_from first bits))
 symbol-number s first bits =
     number_read s (falling_wires first bits) ∙ sym (number_reversed (read s (falling_wires first bits)))
     ∙ ap number_down (ap (λ (bs : List Bool). reverse bs) (falling-down s first bits) ∙ reverse-reverse (map s (variables_from first bits)))
@@ -127,7 +127,7 @@ one_symbol first wide draws rest s t rec (inl less) =
     inl (inl (omega arith))
 one_symbol first wide draws rest s t rec (inr same) = more (rec same.1)
   where
-    numbers : number_of s (falling_wires first (bits_where wide)) ≡ number_of t (falling_wires first (bits_where wide))
+    numbers : value_of_wires s (falling_wires first (bits_where wide)) ≡ value_of_wires t (falling_wires first (bits_where wide))
     numbers = symbol-number s first (bits_where wide) ∙ ap number_down same.0 ∙ sym (symbol-number t first (bits_where wide))
 
     more : BeforeOr (first + bits_where wide) draws rest s t → BeforeOr first (wide ∷ draws) rest s t

@@ -5,15 +5,12 @@ use lib.Bits.{and_step, or_step, xor_step, differ as differ_digits}
 use Rattle.bit_blast.specs.Meanings.{bit, differ}
 use Rattle.bit_blast.proofs.BitNumbers.{number}
 use Rattle.bit_blast.proofs.BlockLemmas.{both}
+use Rattle.bit_blast.proofs.NumberLemmas.{half_bit as upper_part}
 
 -- the lowest bit and the others
 pub lower_part : (b : Bool) (n : ℕ) → (bit b + 2 * n) % 2 ≡ bit b
 lower_part true n = omega arith
 lower_part false n = omega arith
-
-pub upper_part : (b : Bool) (n : ℕ) → (bit b + 2 * n) / 2 ≡ n
-upper_part true n = omega arith
-upper_part false n = omega arith
 
 -- an operation that goes through the digits of two numbers is the operation on their bits
 pub digit_by_digit : (operation : ℕ → ℕ → ℕ) (one : ℕ → ℕ → ℕ) (value : Bool → Bool → Bool)

@@ -57,7 +57,7 @@ pub lowest_bit : (b : Bool) (n : ℕ) → lowest (bit b + 2 * n) ≡ b
 lowest_bit true n = eq-eqb ((1 + 2 * n) % 2) 1 (omega arith)
 lowest_bit false n = ne_eqb ((0 + 2 * n) % 2) 1 (omega arith)
 
-half_bit : (b : Bool) (n : ℕ) → (bit b + 2 * n) / 2 ≡ n
+pub half_bit : (b : Bool) (n : ℕ) → (bit b + 2 * n) / 2 ≡ n
 half_bit true n = omega arith
 half_bit false n = omega arith
 

@@ -42,7 +42,7 @@ use Rattle.bit_blast.proofs.ProductLemmas.{multiply_reads}
 use Rattle.bit_blast.proofs.QuotientLemmas.{quotient_or_ones, divide_reads}
 use Rattle.bit_blast.proofs.FittingLemmas.{length_fitted, answer_reads, filled_reads, extended_reads}
 use Rattle.bit_blast.proofs.LogicLemmas.{and_is, or_is, xor_is, or_by_and, equal_is}
-use Rattle.bit_blast.proofs.SignedLemmas.{less_turned, signed_quotient_reads, signed_remainder_reads}
+use Rattle.bit_blast.proofs.SignedLemmas.{less_turned, signed_quotient_reads, signed_remainder_reads, failed, passed}
 
 bit_truth : (b : Bool) → bit b ≡ truth b
 bit_truth true = refl
@@ -51,12 +51,6 @@ bit_truth false = refl
 pub some_bits : (width : Width) → 0 < bits_of width
 some_bits W32 = omega arith
 some_bits W64 = omega arith
-
-passed : (m n : ℕ) → nat_le m n ≡ true → m ≤ n
-passed m n e = grind (arith, nat_tests)
-
-failed : (m n : ℕ) → nat_le m n ≡ false → n < m
-failed m n e = grind (arith, nat_tests)
 
 -- the signed interpretation, shifted, is what the shift with copies of the sign is
 shifted_signed : (N x k : ℕ) → 0 < N → x < 2 ^ N → down N (own_sign N x) k x ≡ unsigned N (int_shr (signed N x) k)

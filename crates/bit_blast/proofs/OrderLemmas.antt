@@ -4,10 +4,11 @@ use Rattle.std.specs.List.{list_any}
 use Rattle.std.proofs.lemmas.List.Elements.{All-head, All-tail, All-cons}
 use Rattle.wasm_rules.specs.Words.{bits_where}
 use Rattle.int_ops.specs.Operators.{operand_bits}
-use Rattle.bv_terms.specs.Terms.{Term, Number, Symbol, Unary, Binary, Choose, Byte, Join, Bytes, NoBytes, Then, is_same, is_number, width_of, HasWidth, AreBytes, HasSymbols, HaveSymbols}
+use Rattle.bv_terms.specs.Terms.{Term, Number, Symbol, Unary, Binary, Choose, Byte, Join, Bytes, NoBytes, Then, is_same, is_number, width_of, HasWidth, HaveByteWidths, HasSymbols, HaveSymbols}
 use Rattle.bv_terms.proofs.SameLemmas.{is_same-itself}
 use Rattle.bit_blast.specs.Formulas.{Condition, once_after, with_terms, with_bytes, with_conditions, with_first, terms_in_order}
 use Rattle.bit_blast.specs.Meanings.{IsProper, CanBeLeast, AreProper}
+use Rattle.bit_blast.proofs.ClauseLemmas.{or_left, or_right, or_cases}
 
 -- a term is there
 abbrev pub Has : List Term → Term → Type 0
@@ -37,18 +38,6 @@ Ordered draws before [] = Unit {0}
 Ordered draws before (t ∷ terms) = OperandsReady before t × IsProper draws t × Ordered draws (before ++ t ∷ []) terms
 
 -- ---- membership
-
-or_left : (a b : Bool) → IsTrue a → IsTrue (a || b)
-or_left true b h = refl
-or_left false b h = cc
-
-or_right : (a b : Bool) → IsTrue b → IsTrue (a || b)
-or_right true b h = refl
-or_right false b h = h
-
-or_cases : (a b : Bool) → IsTrue (a || b) → IsTrue a ⊎ IsTrue b
-or_cases true b h = inl refl
-or_cases false b h = inr h
 
 pub has-front : (xs ys : List Term) (t : Term) → Has xs t → Has (xs ++ ys) t
 has-front [] ys t h = cc
@@ -166,7 +155,7 @@ mutual
       adds-once draws (with_bytes bytes seen) (Join wide bytes) seen o all.ordered all.kept all.here
       (record { no_number = refl; typed = (refl, typed.1, typed.2); drawn = drawn })
 
-  adds-bytes : (draws : List Bool) (bytes : Bytes) → AreBytes bytes → HaveSymbols draws bytes → (seen : List Term) → Ordered draws [] seen
+  adds-bytes : (draws : List Bool) (bytes : Bytes) → HaveByteWidths bytes → HaveSymbols draws bytes → (seen : List Term) → Ordered draws [] seen
       → Adds draws seen (with_bytes bytes seen) (BytesReady (with_bytes bytes seen) bytes)
   adds-bytes draws NoBytes typed drawn seen o = record { ordered = o; kept = λ a h. h; here = tt }
   adds-bytes draws (Then t rest) typed drawn seen o =

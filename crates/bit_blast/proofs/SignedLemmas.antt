@@ -82,10 +82,10 @@ less_turned s one xs ys some same =
 -- ---- quotients
 
 -- an integer is its absolute value with its sign
-passed : (m n : ℕ) → nat_le m n ≡ true → m ≤ n
+pub passed : (m n : ℕ) → nat_le m n ≡ true → m ≤ n
 passed m n e = grind (arith, nat_tests)
 
-failed : (m n : ℕ) → nat_le m n ≡ false → n < m
+pub failed : (m n : ℕ) → nat_le m n ≡ false → n < m
 failed m n e = grind (arith, nat_tests)
 
 signed_own : (N x : ℕ) → 0 < N → x < 2 ^ N → signed N x ≡ of_sign (own_sign N x) (negated N (own_sign N x) x)

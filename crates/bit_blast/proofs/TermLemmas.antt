@@ -17,7 +17,8 @@ use Rattle.bit_blast.specs.Operators.{fitted}
 use Rattle.bv_terms.specs.declared.words.Form.TheVariants.{Join as JoinForm}
 use Rattle.bit_blast.specs.Blocks.{Builds}
 use Rattle.bit_blast.specs.Formulas.{Known, wires_in, operand, byte_wires, symbol_first, symbols_end, term_wires, build_terms}
-use Rattle.bit_blast.specs.Walks.{place_of, AreDistinct, term_at, terms_at, known_after, known_of, wires_at, symbol_firsts}
+use Rattle.bit_blast.specs.GraphConditions.{term_at, terms_at}
+use Rattle.bit_blast.specs.code.Tasks.{place_of, AreDistinct, known_after, known_of, wires_at, symbol_firsts}
 use Rattle.bit_blast.proofs.WireLoops.{drop_next}
 use Rattle.bit_blast.proofs.WalkLemmas.{same-at, same_numbers}
 

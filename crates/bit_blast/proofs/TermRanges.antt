@@ -6,7 +6,7 @@ use Rattle.bv_terms.specs.Terms.{Term, Number, Symbol, Unary, Binary, Choose, By
 use Rattle.bit_blast.specs.declared.gates.Gate.TheVariants.{Same}
 use Rattle.bit_blast.specs.Gates.{false_wire, Circuit, next_of}
 use Rattle.bit_blast.specs.Blocks.{Built}
-use Rattle.bit_blast.specs.Formulas.{Condition, symbol_first, symbols_end, falling_wires, Known, wires_in, operand, byte_wires, term_wires, terms_in_order, build_terms, build_first, Parts, built, start}
+use Rattle.bit_blast.specs.Formulas.{Condition, symbol_first, symbols_end, falling_wires, Known, wires_in, operand, byte_wires, term_wires, terms_in_order, build_terms, build_first, FormulaParts, built, start}
 use Rattle.bit_blast.specs.Meanings.{IsProper}
 use Rattle.bit_blast.proofs.RangeLemmas.{AreWires, IsRanged, wires-later, wires-number, wires-append, wires-drop, wires-reverse, false-wire, Goes, stays, then_goes, each_goes, choose_goes}
 use Rattle.bit_blast.proofs.OperatorRanges.{GoesOn, wires-fitted, unary_operator_goes, binary_operator_goes}
@@ -106,7 +106,7 @@ first_goes known (Some t) c some i =
 
 -- ---- all of it
 
-pub record Ranges (draws : List Bool) (all : Built Parts) : Type 0 where
+pub record Ranges (draws : List Bool) (all : Built FormulaParts) : Type 0 where
   pub starts : all.circuit.first ≡ symbols_end 2 draws
   pub ranged : IsRanged all.circuit.first all.circuit.gates
   pub known : KnownWires (next_of all.circuit) all.result.known

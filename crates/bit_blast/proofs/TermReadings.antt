@@ -5,13 +5,13 @@ use Rattle.std.proofs.Math.Nat.{div-eq_of_lt}
 use Rattle.int_ops.specs.Operators.{operand_bits, unary, total}
 use Rattle.int_ops.specs.Bytes.{byte_of, joined}
 use Rattle.wasm_rules.specs.Words.{CanJoin, bits_where, chosen, taken}
-use Rattle.bv_terms.specs.Terms.{Term, Number, Symbol, Unary, Binary, Choose, Byte, Join, Bytes, NoBytes, Then, count_of, is_number, width_of, HasWidth, AreBytes, value_of, values_of}
+use Rattle.bv_terms.specs.Terms.{Term, Number, Symbol, Unary, Binary, Choose, Byte, Join, Bytes, NoBytes, Then, count_of, is_number, width_of, HasWidth, HaveByteWidths, value_of, values_of}
 use Rattle.refute_check.specs.Clauses.{Assignment}
 use Rattle.bit_blast.specs.Gates.{Wires, false_wire, negation, Circuit}
 use Rattle.bit_blast.specs.Blocks.{none, choose}
 use Rattle.bit_blast.specs.Operators.{fitted}
 use Rattle.bit_blast.specs.Formulas.{symbol_first, falling_wires, symbol_wires, Known, wires_in, operand, byte_wires, term_wires}
-use Rattle.bit_blast.specs.Meanings.{holds, number_of, input_from, input_of, IsProper}
+use Rattle.bit_blast.specs.Meanings.{holds, value_of_wires, input_from, input_of, IsProper}
 use Rattle.bit_blast.proofs.BitNumbers.{number}
 use Rattle.bit_blast.proofs.NumberLemmas.{number_below, number_append, number_drop, number_bits_of}
 use Rattle.bit_blast.proofs.SumLemmas.{either_is}
@@ -21,6 +21,7 @@ use Rattle.bit_blast.proofs.BlockLemmas.{Valued, none_reads, mux_reads}
 use Rattle.bit_blast.proofs.FittingLemmas.{length_fitted, filled_reads}
 use Rattle.bit_blast.proofs.OpcodeLemmas.{unary_operator_reads, length_unary_operator, binary_operator_reads, length_binary_operator}
 use Rattle.bit_blast.proofs.OrderLemmas.{Ready, BytesReady, OperandsReady, own_width}
+use Rattle.int_ops.proofs.BytesLemmas.{bits_of_bytes as byte_bits}
 
 -- ---- symbols
 
@@ -30,9 +31,9 @@ length_falling first (suc bits) = ap suc (length_falling first bits)
 
 -- the input's number for a symbol is what its wires spell
 input-at : (s : Assignment) (first : ℕ) (draws : List Bool) (k : ℕ) (wide : Bool) → slice_get draws k ≡ Some wide
-    → slice_index (input_from s first draws) k ≡ number_of s (falling_wires (symbol_first first draws k) (bits_where wide))
+    → slice_index (input_from s first draws) k ≡ value_of_wires s (falling_wires (symbol_first first draws k) (bits_where wide))
 input-at s first [] k wide h = cc
-input-at s first (w ∷ draws) zero wide h = let e : w ≡ wide = cc in ap (λ (b : Bool). number_of s (falling_wires first (bits_where b))) e
+input-at s first (w ∷ draws) zero wide h = let e : w ≡ wide = cc in ap (λ (b : Bool). value_of_wires s (falling_wires first (bits_where b))) e
 input-at s first (w ∷ draws) (suc k) wide h = input-at s (first + bits_where w) draws k wide h
 
 pub symbol_reads : (s : Assignment) (draws : List Bool) (k : ℕ) (wide : Bool) → slice_get draws k ≡ Some wide
@@ -137,10 +138,6 @@ choose_reads s one condition xs ys c some same h =
 
 -- ---- bytes
 
-byte_bits : (i : ℕ) → 2 ^ (8 * i) ≡ 256 ^ i
-byte_bits zero = refl
-byte_bits (suc i) = ap (λ (n : ℕ). 2 ^ n) (mul-suc 8 i) ∙ pow-add 2 (8 * i) 8 ∙ ap (λ (n : ℕ). n * 256) (byte_bits i) ∙ sym (pow-suc 256 i)
-
 -- also past the end, where nothing is left
 number_beyond : (k : ℕ) (xs : List Bool) → number (drop k xs) ≡ number xs / 2 ^ k
 number_beyond k xs = ⊎_elim past within (cases_lt (length xs) k)
@@ -163,14 +160,14 @@ byte_reads s one i ws =
 
 -- ---- joins
 
-pub bytes_long : (seen : List Term) (known : Known) → LongKnown seen known → (bytes : Bytes) → AreBytes bytes → BytesReady seen bytes → length (byte_wires known bytes) ≡ 8 * count_of bytes
+pub bytes_long : (seen : List Term) (known : Known) → LongKnown seen known → (bytes : Bytes) → HaveByteWidths bytes → BytesReady seen bytes → length (byte_wires known bytes) ≡ 8 * count_of bytes
 bytes_long seen known long NoBytes typed ready = refl
 bytes_long seen known long (Then t rest) typed ready =
     length-append (operand known 8 t) (byte_wires known rest)
     ∙ ap₂ (λ (m n : ℕ). m + n) (operand_long seen known long 8 t typed.0 ready.0) (bytes_long seen known long rest typed.1 ready.1) ∙ omega arith
 
 pub bytes_read : (s : Assignment) → s 1 ≡ true → (input : List ℕ) (seen : List Term) (known : Known) → LongKnown seen known → ReadKnown s input seen known
-    → (bytes : Bytes) → AreBytes bytes → BytesReady seen bytes → number (read s (byte_wires known bytes)) ≡ joined (values_of input bytes)
+    → (bytes : Bytes) → HaveByteWidths bytes → BytesReady seen bytes → number (read s (byte_wires known bytes)) ≡ joined (values_of input bytes)
 bytes_read s one input seen known long right NoBytes typed ready = refl
 bytes_read s one input seen known long right (Then t rest) typed ready =
     ap (λ (bs : List Bool). number bs) (read_append s (operand known 8 t) (byte_wires known rest))

@@ -19,7 +19,8 @@ use Rattle.std.proofs.lemmas.List.Elements.{All-head, All-tail, All-append, All-
 use Rattle.bit_blast.specs.declared.tasks.Task.{Task}
 use Rattle.bit_blast.specs.declared.tasks.Task.TheVariants.{Visit, Put}
 use Rattle.bit_blast.specs.Formulas.{once_after, with_terms, with_bytes}
-use Rattle.bit_blast.specs.Walks.{place_of, with_number, AreDistinct, Places, IsPlaced, visits, operands_of, term_at, terms_at, after_tasks, HoldsTask, size_of, size_of_all, work_in, CarriesOut}
+use Rattle.bit_blast.specs.GraphConditions.{term_at, terms_at}
+use Rattle.bit_blast.specs.code.Tasks.{place_of, with_number, AreDistinct, Places, IsPlaced, visits, operands_of, after_tasks, HoldsTask, size_of, size_of_all, work_in, CarriesOut}
 
 all_one : {A : Type 0} (P : A → Type 0) (x : A) → P x → All P (x ∷ [])
 all_one P x h = All-cons P x [] h (All-nil P)

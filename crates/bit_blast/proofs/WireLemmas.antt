@@ -4,14 +4,15 @@ use Rattle.std.proofs.lemmas.List.{reverse-append}
 use Rattle.std.proofs.lemmas.Bool.{cases_eq}
 use Rattle.refute_check.specs.Clauses.{Assignment, positive, negative, variable_of, sign_of}
 use Rattle.bit_blast.specs.Gates.{Wires, true_wire, false_wire, negation, number_wires}
-use Rattle.bit_blast.specs.Meanings.{holds, bit, number_of}
+use Rattle.bit_blast.specs.Meanings.{holds, bit, value_of_wires}
 use Rattle.bit_blast.proofs.BitNumbers.{number, lowest, bits_of}
+use Rattle.refute_check.proofs.Membership.{variable-positive as variable_positive, variable-negative as variable_negative}
 
 -- the bits that wires have under an assignment
 abbrev pub read : Assignment → Wires → List Bool
 read s wires = map (holds s) wires
 
-pub number_read : (s : Assignment) (wires : Wires) → number_of s wires ≡ number (read s wires)
+pub number_read : (s : Assignment) (wires : Wires) → value_of_wires s wires ≡ number (read s wires)
 number_read s [] = refl
 number_read s (w ∷ wires) = ap (λ (n : ℕ). bit (holds s w) + 2 * n) (number_read s wires)
 
@@ -22,12 +23,6 @@ even v = eq-eqb ((2 * v) % 2) 0 (omega arith)
 
 odd : (v : ℕ) → sign_of (2 * v + 1) ≡ false
 odd v = ne_eqb ((2 * v + 1) % 2) 0 (λ e. absurd (omega arith))
-
-pub variable_positive : (v : ℕ) → variable_of (positive v) ≡ v
-variable_positive v = omega arith
-
-pub variable_negative : (v : ℕ) → variable_of (negative v) ≡ v
-variable_negative v = omega arith
 
 pub holds_positive : (s : Assignment) (v : ℕ) → holds s (positive v) ≡ s v
 holds_positive s v =

@@ -117,11 +117,11 @@ build_first known (Some t) = each Same (reverse (wires_in known t))
 
 -- ---- all of it
 
-pub record Parts : Type 0 where
+pub record FormulaParts : Type 0 where
   pub known : Known
   pub least : Wires
 
-abbrev pub build_parts : List Condition → List Bool → Option Term → Building Parts
+abbrev pub build_parts : List Condition → List Bool → Option Term → Building FormulaParts
 build_parts conditions draws first = do
   known ← build_terms draws (terms_in_order conditions first) []
   least ← build_first known first
@@ -131,7 +131,7 @@ build_parts conditions draws first = do
 abbrev pub start : List Bool → Circuit
 start draws = record { first = symbols_end 2 draws; gates = [] }
 
-abbrev pub built : List Condition → List Bool → Option Term → Built Parts
+abbrev pub built : List Condition → List Bool → Option Term → Built FormulaParts
 built conditions draws first = build_parts conditions draws first (start draws)
 
 -- A term isn't 0 where one of its bits is true, and is 0 where none is.
@@ -151,7 +151,7 @@ decisions circuit least =
     ++ variables_from 2 (circuit.first - 2)
     ++ 1 ∷ variables_from circuit.first (length circuit.gates - length least)
 
-abbrev pub formula_of : List Condition → Built Parts → Cnf
+abbrev pub formula_of : List Condition → Built FormulaParts → Cnf
 formula_of conditions all = record {
   vars = next_of all.circuit - 1;
   clauses = (true_wire ∷ []) ∷ [] ++ clauses_from all.circuit.first all.circuit.gates ++ flat_map (condition_clauses all.result.known) conditions;

@@ -3,6 +3,7 @@ pub mod Blocks
 pub mod Operators
 pub mod Formulas
 pub mod Meanings
-pub mod Walks
+pub mod GraphConditions
+pub mod code
 pub mod Inputs
 pub mod BlockLaws

@@ -21,9 +21,9 @@ bit true = 1
 bit false = 0
 
 -- the number whose bits are the wires, the lowest first
-abbrev pub number_of : Assignment → Wires → ℕ
-number_of assignment [] = 0
-number_of assignment (wire ∷ wires) = bit (holds assignment wire) + 2 * number_of assignment wires
+abbrev pub value_of_wires : Assignment → Wires → ℕ
+value_of_wires assignment [] = 0
+value_of_wires assignment (wire ∷ wires) = bit (holds assignment wire) + 2 * value_of_wires assignment wires
 
 -- ---- gates
 
@@ -50,7 +50,7 @@ HaveValues assignment first (gate ∷ earlier) =
 abbrev pub input_from : Assignment → ℕ → List Bool → List ℕ
 input_from assignment first [] = []
 input_from assignment first (wide ∷ draws) =
-    number_of assignment (falling_wires first (bits_where wide)) ∷ input_from assignment (first + bits_where wide) draws
+    value_of_wires assignment (falling_wires first (bits_where wide)) ∷ input_from assignment (first + bits_where wide) draws
 
 abbrev pub input_of : Assignment → List Bool → List ℕ
 input_of assignment draws = input_from assignment 2 draws

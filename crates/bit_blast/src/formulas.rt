@@ -6,7 +6,8 @@ ghost use Rattle.bv_terms.specs.Graphs.{Holds};
 ghost use Rattle.bit_blast.specs.Gates.{true_wire, negation as negation_of, clauses_from};
 ghost use Rattle.bit_blast.specs.Blocks.{Builds};
 ghost use Rattle.bit_blast.specs.Formulas.{decisions, build_first as build_first_of, condition_clauses, variables_from, formula};
-ghost use Rattle.bit_blast.specs.Walks.{term_at, known_of, conditions_of, first_of};
+ghost use Rattle.bit_blast.specs.GraphConditions.{term_at, conditions_of, first_of};
+ghost use Rattle.bit_blast.specs.code.Tasks.{known_of};
 
 use crate::blocks::sames;
 use crate::gates::distinct;

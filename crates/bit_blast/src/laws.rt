@@ -1,7 +1,7 @@
 // Laws of circuits and formulas.
 ghost use Rattle.std.specs.Prelude.{◌≡◌, ◌↔◌, ◌≤◌, ℕ, Bool, List, length, Option, All};
 ghost use Rattle.bv_terms.specs.Terms.{Term as OneTerm, value_of, HasSymbols};
-ghost use Rattle.refute_check.specs.Clauses.{Assignment, MeetsAll};
+ghost use Rattle.refute_check.specs.Clauses.{Assignment, SatisfiesAll};
 ghost use Rattle.refute_check.specs.Orders.{Names, NamesAll};
 ghost use Rattle.bit_blast.specs.Formulas.{Condition, formula};
 ghost use Rattle.bit_blast.specs.Meanings.{AreProper, CanBeLeast, Computes, IsAnswered, input_of};
@@ -12,7 +12,7 @@ ghost use Rattle.bit_blast.specs.BlockLaws.{AddLaw, LessLaw, NoneLaw, NegateLaw,
 /// each condition has its answer, and each gate has its value.
 pub fn formula_means_conditions()
     ensures { (conditions : List Condition) (draws : List Bool) (first : Option OneTerm) → AreProper draws conditions → CanBeLeast draws first
-        → (assignment : Assignment) → MeetsAll assignment (formula conditions draws first).clauses ↔ Computes conditions draws first assignment }
+        → (assignment : Assignment) → SatisfiesAll assignment (formula conditions draws first).clauses ↔ Computes conditions draws first assignment }
 {}
 
 /// Every input at which each condition has its answer has an assignment that meets the formula, and exactly one: two with the
@@ -20,9 +20,9 @@ pub fn formula_means_conditions()
 pub fn each_input_has_one_assignment()
     ensures some { (conditions : List Condition) (draws : List Bool) (first : Option OneTerm) → AreProper draws conditions → CanBeLeast draws first
         → (input : List ℕ) → IsInput draws input → All (IsAnswered input) conditions
-        → (assignment : Assignment) × MeetsAll assignment (formula conditions draws first).clauses × (input_of assignment draws ≡ input) }
+        → (assignment : Assignment) × SatisfiesAll assignment (formula conditions draws first).clauses × (input_of assignment draws ≡ input) }
     ensures only { (conditions : List Condition) (draws : List Bool) (first : Option OneTerm) → AreProper draws conditions → CanBeLeast draws first
-        → (one other : Assignment) → MeetsAll one (formula conditions draws first).clauses → MeetsAll other (formula conditions draws first).clauses
+        → (one other : Assignment) → SatisfiesAll one (formula conditions draws first).clauses → SatisfiesAll other (formula conditions draws first).clauses
         → input_of one draws ≡ input_of other draws
         → (variable : ℕ) → 1 ≤ variable → variable ≤ (formula conditions draws first).vars → one variable ≡ other variable }
 {}

@@ -4,7 +4,8 @@ ghost use Rattle.bv_terms.specs.declared.words.Word.TheVariants.{Term as Numbere
 ghost use Rattle.bv_terms.specs.Graphs.{Holds};
 ghost use Rattle.bit_blast.specs.declared.tasks.Task.TheVariants.{Visit};
 ghost use Rattle.bit_blast.specs.Formulas.{with_terms, terms_in_order as terms_in_order_of};
-ghost use Rattle.bit_blast.specs.Walks.{place_of, with_number, AreDistinct, term_at, terms_at, HoldsTask, CarriesOut, conditions_of, first_of};
+ghost use Rattle.bit_blast.specs.GraphConditions.{term_at, terms_at, conditions_of, first_of};
+ghost use Rattle.bit_blast.specs.code.Tasks.{place_of, with_number, AreDistinct, HoldsTask, CarriesOut};
 
 use crate::tasks::{Task, Tasks};
 use bv_terms::{Cond, Graph, TermId};
@@ -21,7 +22,7 @@ pub struct Order {
 
 impl Model for Order {
     ghost use Rattle.std.specs.Prelude.{ℕ, List};
-    ghost use Rattle.bit_blast.specs.Walks.{IsPlaced};
+    ghost use Rattle.bit_blast.specs.code.Tasks.{IsPlaced};
 
     ghost Value = { List ℕ };
 

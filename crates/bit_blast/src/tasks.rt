@@ -1,6 +1,6 @@
 // What is still to be done on a walk through terms.
 ghost use Rattle.std.specs.Prelude.{◌≡◌, ◌++◌, ◌∷◌, [], OnOk, MatchOption};
-ghost use Rattle.bit_blast.specs.Walks.{visits, operands_of};
+ghost use Rattle.bit_blast.specs.code.Tasks.{visits, operands_of};
 
 use bv_terms::{Form, TermId, Word};
 use std::alloc::{AllocError, Global};

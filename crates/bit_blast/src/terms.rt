@@ -6,7 +6,8 @@ ghost use Rattle.bv_terms.specs.Graphs.{Holds, OperandsBelow, term_of, form_term
 ghost use Rattle.bv_terms.specs.Terms.{bytes_from};
 ghost use Rattle.bit_blast.specs.Blocks.{Builds};
 ghost use Rattle.bit_blast.specs.Formulas.{symbol_first as symbol_first_of, symbol_wires as symbol_wires_of, wires_in, operand as operand_of, byte_wires as byte_wires_of, term_wires as term_wires_of, build_terms as build_terms_of};
-ghost use Rattle.bit_blast.specs.Walks.{term_at, terms_at, known_of, AreSymbols};
+ghost use Rattle.bit_blast.specs.GraphConditions.{term_at, terms_at};
+ghost use Rattle.bit_blast.specs.code.Tasks.{known_of, AreSymbols};
 
 use crate::blocks::choose;
 use crate::netlist::Netlist;

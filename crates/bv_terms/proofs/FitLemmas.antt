@@ -10,7 +10,7 @@ use Rattle.bv_terms.specs.declared.words.Word.{Word}
 use Rattle.bv_terms.specs.declared.words.Word.TheVariants.{Num, Term as Numbered}
 use Rattle.bv_terms.specs.declared.words.Form.{Form}
 use Rattle.bv_terms.specs.declared.words.Form.TheVariants.{Symbol as SymbolForm, Un, Bin, Choose as ChooseForm, Byte as ByteForm, Join as JoinForm}
-use Rattle.bv_terms.specs.Terms.{Term, Number, Unary, Binary, Choose, Byte, Join, Bytes, Then, bytes_from, count_of, is_number, number_of, width_of, HasWidth, AreBytes, are_same}
+use Rattle.bv_terms.specs.Terms.{Term, Number, Unary, Binary, Choose, Byte, Join, Bytes, Then, bytes_from, count_of, is_number, number_of, width_of, HasWidth, HaveByteWidths, are_same}
 use Rattle.bv_terms.specs.Making.{of_numbers, numbers_of, byte_of_join, byte_at, join_of_bytes, whole, bytes_of_term}
 use Rattle.bv_terms.specs.Graphs.{word_among, form_among, terms_of, IsBelow, IsGraph}
 use Rattle.bv_terms.proofs.SameLemmas.{are_same-are, are_same-themselves}
@@ -347,7 +347,7 @@ joinable wide n can = ⊎_elim (λ e. at n 1 e (omega arith)) (λ more. ⊎_elim
     at n m e h = omega arith
 
 typed-join : (terms : List Term) (form : Form) (wide : Bool) (words : List Word) → form ≡ JoinForm wide words → HasWidth (width_of (form_among terms form)) (form_among terms form)
-    → CanJoin wide (count_of (bytes_from (map (word_among terms) words))) × AreBytes (bytes_from (map (word_among terms) words))
+    → CanJoin wide (count_of (bytes_from (map (word_among terms) words))) × HaveByteWidths (bytes_from (map (word_among terms) words))
 typed-join terms form wide words is typed =
     let h = subst (λ f. HasWidth (width_of (form_among terms f)) (form_among terms f)) is typed in (h.1, h.2)
 
@@ -356,7 +356,7 @@ pub join-count : (terms : List Term) (form : Form) (wide : Bool) (words : List W
 join-count terms form wide words is typed =
     subst (λ n. n ≤ 8) (count_of-words terms words) (joinable wide (count_of (bytes_from (map (word_among terms) words))) (typed-join terms form wide words is typed).0)
 
-each-byte : (terms : List Term) (words : List Word) → AreBytes (bytes_from (map (word_among terms) words)) → All (λ b. HasWidth 8 (word_among terms b)) words
+each-byte : (terms : List Term) (words : List Word) → HaveByteWidths (bytes_from (map (word_among terms) words)) → All (λ b. HasWidth 8 (word_among terms b)) words
 each-byte terms [] h = All-nil (λ b. HasWidth 8 (word_among terms b))
 each-byte terms (w ∷ ws) h = All-cons (λ b. HasWidth 8 (word_among terms b)) w ws h.0 (each-byte terms ws h.1)
 

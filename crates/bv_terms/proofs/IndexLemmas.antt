@@ -11,7 +11,7 @@ use Rattle.std.proofs.lemmas.Bool.{false≢true, cases_lt}
 use Rattle.std.proofs.lemmas.List.{append_assoc, append-nil, length-append, drop_all}
 use Rattle.bv_terms.specs.declared.words.Form.{Form}
 use Rattle.bv_terms.specs.declared.key.Key.{Key}
-use Rattle.bv_terms.specs.Index.{form_of, key_cmp, IsIndexed, all_forms}
+use Rattle.bv_terms.specs.code.Index.{form_of, key_cmp, IsIndexed, all_forms}
 use Rattle.bv_terms.proofs.ListLemmas.{get-below, get-some, get-left, get-last, get-push}
 use Rattle.bv_terms.proofs.KeyLemmas.{key-equal, key-same}
 

@@ -11,7 +11,7 @@ use Rattle.bv_terms.specs.declared.words.Form.TheVariants.{Symbol as SymbolForm,
 use Rattle.bv_terms.specs.declared.key.Key.{Key}
 use Rattle.bv_terms.specs.declared.key.Key.TheVariants.{Symbol as SymbolKey, Un as UnKey, Bin as BinKey, Choose as ChooseKey, Byte as ByteKey, Join as JoinKey}
 use Rattle.bv_terms.specs.contracts.words.WordOrd.TheImpl as word_ord
-use Rattle.bv_terms.specs.Index.{form_of, parts_cmp}
+use Rattle.bv_terms.specs.code.Index.{form_of, parts_cmp}
 
 word_cmp : Word → Word → Ordering
 word_cmp = (word_ord.ghosts).cmp

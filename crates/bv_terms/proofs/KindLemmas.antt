@@ -3,7 +3,7 @@ use Rattle.std.proofs.Common.{◌≡◌, ℕ, Bool, List, [], ◌∷◌, length,
 use Rattle.std.proofs.lemmas.List.Elements.{All-head, All-tail}
 use Rattle.int_ops.specs.Operators.{result_bits}
 use Rattle.wasm_rules.specs.Words.{bits_where, CanJoin, HasSome, Gives}
-use Rattle.bv_terms.specs.Terms.{Term, Unary, Binary, Choose, Byte, Join, bytes_from, count_of, value_of, values_of, HasWidth, AreBytes, HasBits}
+use Rattle.bv_terms.specs.Terms.{Term, Unary, Binary, Choose, Byte, Join, bytes_from, count_of, value_of, values_of, HasWidth, HaveByteWidths, HasBits}
 use Rattle.bv_terms.specs.Making.{made, terms}
 use Rattle.bv_terms.proofs.WidthLemmas.{value-below}
 use Rattle.bv_terms.proofs.RuleLemmas.{made-keeps}
@@ -21,7 +21,7 @@ pub count_of-bytes_from : (ts : List Term) → count_of (bytes_from ts) ≡ leng
 count_of-bytes_from [] = refl
 count_of-bytes_from (t ∷ ts) = omega (arith, count_of-bytes_from ts)
 
-pub are_bytes : (ts : List Term) → All (HasWidth 8) ts → AreBytes (bytes_from ts)
+pub are_bytes : (ts : List Term) → All (HasWidth 8) ts → HaveByteWidths (bytes_from ts)
 are_bytes [] each = tt
 are_bytes (t ∷ ts) each = (All-head (HasWidth 8) t ts each, are_bytes ts (All-tail (HasWidth 8) t ts each))
 

@@ -12,11 +12,12 @@ use Rattle.int_ops.proofs.WidthLemmas.{unary-below, binary-below}
 use Rattle.int_ops.proofs.BytesLemmas.{joined-bytes_of}
 use Rattle.wasm_rules.specs.Words.{bits_where, chosen, CanJoin}
 use Rattle.wasm_rules.proofs.NumbersLemmas.{joined-fits}
-use Rattle.bv_terms.specs.Terms.{Term, Number, Symbol, Unary, Binary, Choose, Byte, Join, Bytes, NoBytes, Then, value_of, values_of, width_of, HasWidth, AreBytes, number_of, is_same, are_same}
+use Rattle.bv_terms.specs.Terms.{Term, Number, Symbol, Unary, Binary, Choose, Byte, Join, Bytes, NoBytes, Then, value_of, values_of, width_of, HasWidth, HaveByteWidths, number_of, is_same, are_same}
 use Rattle.bv_terms.specs.Making.{Rule, IsSound, Keeps, of_numbers, numbers_of, chosen_side, chosen_by, byte_of_join, byte_at, join_of_bytes, whole, bytes_of_term, bytes_where, rules, first_of, first_made, made}
-use Rattle.bv_terms.proofs.WidthLemmas.{at_width, either, value-below, values-below, length-values_of}
+use Rattle.bv_terms.proofs.WidthLemmas.{at_width, value-below, values-below, length-values_of}
 use Rattle.bv_terms.proofs.SameLemmas.{is_same-is, are_same-are, same_number}
 use Rattle.bv_terms.proofs.OperationRules.{given, nothing, adds_nothing-sound, changes_nothing-sound, leaves_nothing-sound, of_comparison-sound, of_same-sound}
+use Rattle.int_ops.proofs.WidthLemmas.{either}
 
 -- ---- numbers
 
@@ -105,7 +106,7 @@ byte-later n rest i below =
 byte_of-zero : (i : ℕ) → byte_of 0 i ≡ 0
 byte_of-zero i = ap (λ (k : ℕ). k % 256) (zero-div (256 ^ i))
 
-byte_at-sound : (bytes : Bytes) (i : ℕ) → AreBytes bytes → HasWidth 8 (byte_at bytes i) × ((input : List ℕ) → value_of input (byte_at bytes i) ≡ byte_of (joined (values_of input bytes)) i)
+byte_at-sound : (bytes : Bytes) (i : ℕ) → HaveByteWidths bytes → HasWidth 8 (byte_at bytes i) × ((input : List ℕ) → value_of input (byte_at bytes i) ≡ byte_of (joined (values_of input bytes)) i)
 byte_at-sound NoBytes i h = (omega arith, λ input. sym (byte_of-zero i))
 byte_at-sound (Then t rest) zero h =
     (h.0, λ input. sym (byte-first (value_of input t) (joined (values_of input rest)) (value-below 8 t input h.0)))
@@ -114,12 +115,12 @@ byte_at-sound (Then t rest) (suc i) h =
     (later.0, λ input. later.1 input ∙ sym (byte-later (value_of input t) (joined (values_of input rest)) i (value-below 8 t input h.0)))
 
 -- what is known of a word of which a byte is taken
-join-bytes : (wide : Bool) (bytes : Bytes) → (HasWidth 8 (Join wide bytes) ⊎ HasWidth 32 (Join wide bytes) ⊎ HasWidth 64 (Join wide bytes)) → AreBytes bytes
+join-bytes : (wide : Bool) (bytes : Bytes) → (HasWidth 8 (Join wide bytes) ⊎ HasWidth 32 (Join wide bytes) ⊎ HasWidth 64 (Join wide bytes)) → HaveByteWidths bytes
 join-bytes wide bytes h = ⊎_elim (λ a. a.2) (λ b. ⊎_elim (λ a. a.2) (λ a. a.2) b) h
 
 byte_of_join-sound : IsSound byte_of_join
 byte_of_join-sound (Byte (Join wide bytes) i) s bits e h =
-    let all : AreBytes bytes = join-bytes wide bytes h.2 in
+    let all : HaveByteWidths bytes = join-bytes wide bytes h.2 in
     let at = byte_at-sound bytes i all in
     given (Keeps bits (Byte (Join wide bytes) i)) (byte_at bytes i) s e (subst (λ n. HasWidth n (byte_at bytes i)) (sym h.0) at.0, at.1)
 byte_of_join-sound _ s bits e h = nothing _ s e

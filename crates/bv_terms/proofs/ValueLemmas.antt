@@ -10,7 +10,7 @@ use Rattle.bv_terms.specs.declared.words.Word.{Word}
 use Rattle.bv_terms.specs.declared.words.Word.TheVariants.{Num, Term as Numbered}
 use Rattle.bv_terms.specs.Terms.{Term, Join, bytes_from, value_of, values_of, HasWidth}
 use Rattle.bv_terms.specs.Graphs.{TermGraph, word_among, terms_of, term_of, IsBelow}
-use Rattle.bv_terms.specs.Walks.{IsKnown, known_value, AreValues, Looks, LooksAll, Evaluates}
+use Rattle.bv_terms.specs.code.KnownValues.{IsKnown, known_value, AreValues, Looks, LooksAll, Evaluates}
 use Rattle.bv_terms.proofs.WidthLemmas.{value-below}
 use Rattle.bv_terms.proofs.GraphLemmas.{length-terms_of, below-more}
 

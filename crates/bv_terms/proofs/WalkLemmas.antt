@@ -8,7 +8,7 @@ use Rattle.std.proofs.lemmas.Bool.Decides.{nat_tests}
 use Rattle.bv_terms.specs.declared.words.Word.TheVariants.{Term as Numbered}
 use Rattle.bv_terms.specs.Terms.{value_of}
 use Rattle.bv_terms.specs.Graphs.{TermGraph, terms_of, term_of, Holds}
-use Rattle.bv_terms.specs.Walks.{AreValues}
+use Rattle.bv_terms.specs.code.KnownValues.{AreValues}
 use Rattle.bv_terms.proofs.GraphLemmas.{length-terms_of}
 
 -- a term on the stack, whose value isn't known, with room above it for those below it

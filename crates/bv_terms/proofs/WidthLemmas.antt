@@ -4,17 +4,13 @@ use Rattle.std.specs.Prelude.{slice_index}
 use Rattle.std.proofs.lemmas.Nat.{mod_below, pow_pos}
 use Rattle.std.proofs.lemmas.List.Elements.{All-nil, All-cons}
 use Rattle.int_ops.specs.Operators.{operand_bits, result_bits}
-use Rattle.int_ops.proofs.WidthLemmas.{unary-below, binary-below}
+use Rattle.int_ops.proofs.WidthLemmas.{unary-below, binary-below, either}
 use Rattle.wasm_rules.specs.Words.{bits_where, CanJoin}
 use Rattle.wasm_rules.proofs.NumbersLemmas.{joined-fits}
-use Rattle.bv_terms.specs.Terms.{Term, Number, Symbol, Unary, Binary, Choose, Byte, Join, Bytes, NoBytes, Then, count_of, value_of, values_of, HasWidth, AreBytes}
+use Rattle.bv_terms.specs.Terms.{Term, Number, Symbol, Unary, Binary, Choose, Byte, Join, Bytes, NoBytes, Then, count_of, value_of, values_of, HasWidth, HaveByteWidths}
 
 pub at_width : (bits own n : ℕ) → bits ≡ own → n < 2 ^ own → n < 2 ^ bits
 at_width bits own n is below = subst (λ b. n < 2 ^ b) (sym is) below
-
-pub either : (P : ℕ → Type 0) (b : Bool) (m n : ℕ) → P m → P n → P (cond b m n)
-either P true m n p q = p
-either P false m n p q = q
 
 pub length-values_of : (input : List ℕ) (bytes : Bytes) → length (values_of input bytes) ≡ count_of bytes
 length-values_of input NoBytes = refl
@@ -38,7 +34,7 @@ mutual
       at_width bits (bits_where wide) _ h.0
       (joined-fits wide (values_of input bytes) (subst (CanJoin wide) (sym (length-values_of input bytes)) h.1) (values-below bytes input h.2))
 
-  pub values-below : (bytes : Bytes) (input : List ℕ) → AreBytes bytes → All (λ b. b < 256) (values_of input bytes)
+  pub values-below : (bytes : Bytes) (input : List ℕ) → HaveByteWidths bytes → All (λ b. b < 256) (values_of input bytes)
   values-below NoBytes input h = All-nil (λ b. b < 256)
   values-below (Then t rest) input h =
       All-cons (λ b. b < 256) (value_of input t) (values_of input rest) (value-below 8 t input h.0) (values-below rest input h.1)

@@ -1,6 +1,5 @@
 pub mod Terms
 pub mod Making
 pub mod Graphs
-pub mod Index
-pub mod Walks
+pub mod code
 pub mod Operations

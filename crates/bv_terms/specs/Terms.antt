@@ -86,11 +86,11 @@ abbrev mutual
   HasWidth bits (Binary op a b) = (bits ≡ result_bits op) × IsTrue (is_binary op) × HasWidth (operand_bits op) a × HasWidth (operand_bits op) b
   HasWidth bits (Choose wide c a b) = (bits ≡ bits_where wide) × (HasWidth 8 c ⊎ HasWidth 32 c ⊎ HasWidth 64 c) × HasWidth (bits_where wide) a × HasWidth (bits_where wide) b
   HasWidth bits (Byte a i) = (bits ≡ 8) × (i < 8) × (HasWidth 8 a ⊎ HasWidth 32 a ⊎ HasWidth 64 a)
-  HasWidth bits (Join wide bytes) = (bits ≡ bits_where wide) × CanJoin wide (count_of bytes) × AreBytes bytes
+  HasWidth bits (Join wide bytes) = (bits ≡ bits_where wide) × CanJoin wide (count_of bytes) × HaveByteWidths bytes
 
-  pub AreBytes : Bytes → Type 0
-  AreBytes NoBytes = Unit {0}
-  AreBytes (Then t rest) = HasWidth 8 t × AreBytes rest
+  pub HaveByteWidths : Bytes → Type 0
+  HaveByteWidths NoBytes = Unit {0}
+  HaveByteWidths (Then t rest) = HasWidth 8 t × HaveByteWidths rest
 
 -- A term has a width, and its value at every input is below that power of 2. The second follows from the first.
 abbrev pub HasBits : ℕ → Term → Type 0

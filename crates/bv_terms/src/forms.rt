@@ -1,7 +1,7 @@
 // The forms of a graph, in segments that graphs share.
 ghost use Rattle.std.specs.Prelude.{◌≡◌, ◌≢◌, ℕ, ◌<◌, ◌≤◌, ◌^◌, ◌++◌, ◌∷◌, [], Some, length, slice_get, map, IfOk, IfErr, OnOk, OnErr, IfSome, IfNone};
 ghost use Rattle.std.specs.Arc.{arc_value};
-ghost use Rattle.bv_terms.specs.Index.{form_of, all_forms};
+ghost use Rattle.bv_terms.specs.code.Index.{form_of, all_forms};
 
 use crate::key::{Key, key_of};
 use crate::merging::absorbed;
@@ -26,7 +26,7 @@ impl Model for Forms {
     ghost use Rattle.std.specs.Prelude.{◌≡◌, ◌≤◌, ◌^◌, [], List as Items, map, length};
     ghost use Rattle.std.specs.Arc.{arc_value};
     ghost use Rattle.bv_terms.specs.declared.words.Form.{Form as OneForm};
-    ghost use Rattle.bv_terms.specs.Index.{all_forms};
+    ghost use Rattle.bv_terms.specs.code.Index.{all_forms};
 
     ghost Value = { Items OneForm };
 

@@ -1,6 +1,6 @@
 // The key by which a form is found: its parts, in an order.
 ghost use Rattle.std.specs.Prelude.{◌≡◌, IfOk};
-ghost use Rattle.bv_terms.specs.Index.{form_of};
+ghost use Rattle.bv_terms.specs.code.Index.{form_of};
 
 use crate::words::{Form, Word};
 use std::alloc::{AllocError, Global};

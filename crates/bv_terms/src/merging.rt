@@ -1,7 +1,7 @@
 // Small segments that become one, so that there are few to look through.
 ghost use Rattle.std.specs.Prelude.{◌≡◌, ◌-◌, ◌++◌, ◌∷◌, [], IsTrue, IfSome, map, take, length};
 ghost use Rattle.std.specs.Arc.{arc_value};
-ghost use Rattle.bv_terms.specs.Index.{all_forms};
+ghost use Rattle.bv_terms.specs.code.Index.{all_forms};
 
 use crate::key::key_of;
 use crate::segment::Segment;

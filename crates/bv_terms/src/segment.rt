@@ -1,6 +1,6 @@
 // A run of forms with an index by which a form is found.
 ghost use Rattle.std.specs.Prelude.{◌≡◌, ◌≢◌, ℕ, ◌<◌, ◌++◌, ◌∷◌, [], Some, length, slice_get, OnOk, OnErr, IfSome, IfNone};
-ghost use Rattle.bv_terms.specs.Index.{form_of};
+ghost use Rattle.bv_terms.specs.code.Index.{form_of};
 
 use crate::key::Key;
 use crate::words::Form;
@@ -21,7 +21,7 @@ pub struct Segment {
 impl Model for Segment {
     ghost use Rattle.std.specs.Prelude.{List as Items};
     ghost use Rattle.bv_terms.specs.declared.words.Form.{Form as OneForm};
-    ghost use Rattle.bv_terms.specs.Index.{IsIndexed};
+    ghost use Rattle.bv_terms.specs.code.Index.{IsIndexed};
 
     ghost Value = { Items OneForm };
 

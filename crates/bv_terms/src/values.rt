@@ -4,7 +4,7 @@ ghost use Rattle.wasm_rules.specs.Words.{taken};
 ghost use Rattle.bv_terms.specs.declared.words.Word.TheVariants.{Term as Numbered};
 ghost use Rattle.bv_terms.specs.Terms.{value_of};
 ghost use Rattle.bv_terms.specs.Graphs.{IsBelow, Holds, terms_of, term_of};
-ghost use Rattle.bv_terms.specs.Walks.{IsKnown, known_value, AreValues, Looks, LooksAll, Evaluates};
+ghost use Rattle.bv_terms.specs.code.KnownValues.{IsKnown, known_value, AreValues, Looks, LooksAll, Evaluates};
 
 use crate::graph::Graph;
 use crate::words::{FIRST, Form, TermId, Word};
@@ -23,7 +23,7 @@ pub struct Marks {
 
 impl Model for Marks {
     ghost use Rattle.std.specs.Prelude.{ℕ, length};
-    ghost use Rattle.bv_terms.specs.Walks.{HaveRoom};
+    ghost use Rattle.bv_terms.specs.code.KnownValues.{HaveRoom};
 
     ghost Value = { ℕ };
 

@@ -1,6 +1,6 @@
 // Expressions written in words: their sequences are numbered in the order in which they open.
 use crate::ops::{load, operator, store};
-use crate::words::Words;
+use row_words::Words;
 use std::alloc::{AllocError, Global};
 use wasm_ast::{BlockType, Expr, Instr, List};
 
@@ -104,7 +104,7 @@ fn block_type(words: &mut Words) -> Option<BlockType> {
     if let Some(kind) = words.kind() {
         return Some(BlockType::One(kind));
     }
-    Some(BlockType::Index(words.number()?))
+    Some(BlockType::Index(words.index()?))
 }
 
 // The head of a block of this word.
@@ -201,7 +201,7 @@ fn table(alloc: Global, words: &mut Words) -> Result<Instr, AllocError> {
     let mut last = 0;
     let mut first = true;
     for _ in 0..1_000_000 {
-        let Some(label) = words.number() else {
+        let Some(label) = words.index() else {
             break;
         };
         if !first {
@@ -231,10 +231,10 @@ fn special(alloc: Global, words: &mut Words, word: &str) -> Result<Option<Instr>
         return Ok(Some(table(alloc, words)?));
     }
     if word == "i32.const" {
-        return Ok(Some(Instr::Const32(words.number().unwrap_or(0))));
+        return Ok(Some(Instr::Const32(words.index().unwrap_or(0))));
     }
     if word == "i64.const" {
-        return Ok(Some(Instr::Const64(words.number().unwrap_or(0) as u64)));
+        return Ok(Some(Instr::Const64(words.index().unwrap_or(0) as u64)));
     }
     if word == "select_typed" {
         return Ok(Some(typed(alloc, words)?));
@@ -253,13 +253,13 @@ fn plain(alloc: Global, words: &mut Words, word: &str) -> Result<Option<Instr>, 
     if let Some(instr) = special(alloc, words, word)? {
         return Ok(Some(instr));
     }
-    let Some(x) = words.number() else {
+    let Some(x) = words.index() else {
         return Ok(None);
     };
     if let Some(instr) = with_number(word, x) {
         return Ok(Some(instr));
     }
-    let Some(y) = words.number() else {
+    let Some(y) = words.index() else {
         return Ok(None);
     };
     Ok(naming_two(word, x, y))

@@ -1,6 +1,6 @@
 // What an image says of a valid module.
 use crate::parts::kinds;
-use crate::words::words_of;
+use row_words::words_of;
 use std::alloc::{AllocError, Global};
 use wasm_ast::{ValType, Value};
 use wasm_check::Checked;

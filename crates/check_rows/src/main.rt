@@ -19,7 +19,6 @@ mod ops;
 mod parts;
 mod suffixes;
 mod verdicts;
-mod words;
 
 use std::io;
 use suffixes::answers_of;

@@ -1,27 +1,11 @@
 // Modules written in words, part by part.
 use crate::exprs::expr;
-use crate::words::{Words, words_of};
+use row_words::{Words, empty_module, words_of};
 use std::alloc::{AllocError, Global};
 use wasm_ast::{
     Elem, Export, Expr, Func, FuncType, GlobalDef, GlobalType, Group, Import, ImportKind, Limits,
     List, Mode, Module, Segment, Space, TableType, Text, ValType,
 };
-
-fn empty(alloc: Global) -> Module {
-    Module {
-        types: List::new(Vec::new(alloc)),
-        imports: List::new(Vec::new(alloc)),
-        funcs: List::new(Vec::new(alloc)),
-        tables: List::new(Vec::new(alloc)),
-        memories: List::new(Vec::new(alloc)),
-        globals: List::new(Vec::new(alloc)),
-        exports: List::new(Vec::new(alloc)),
-        start: None,
-        elems: List::new(Vec::new(alloc)),
-        segments: List::new(Vec::new(alloc)),
-        customs: List::new(Vec::new(alloc)),
-    }
-}
 
 /// The value types that come next.
 pub fn kinds(alloc: Global, words: &mut Words) -> Result<List<ValType>, AllocError> {
@@ -43,8 +27,8 @@ fn func_type(alloc: Global, words: &mut Words) -> Result<FuncType, AllocError> {
 }
 
 fn limits(words: &mut Words) -> Option<Limits> {
-    let min = words.number()?;
-    let max = words.number();
+    let min = words.index()?;
+    let max = words.index();
     Some(Limits { min, max })
 }
 
@@ -62,7 +46,7 @@ fn global_type(words: &mut Words) -> Option<GlobalType> {
 
 fn import_kind(words: &mut Words) -> Option<ImportKind> {
     if words.next_is("func") {
-        return Some(ImportKind::Func(words.number()?));
+        return Some(ImportKind::Func(words.index()?));
     }
     if words.next_is("table") {
         return Some(ImportKind::Table(table_type(words)?));
@@ -122,7 +106,7 @@ fn export(alloc: Global, words: &mut Words) -> Result<Option<Export>, AllocError
     let Some(space) = space(words) else {
         return Ok(None);
     };
-    let Some(index) = words.number() else {
+    let Some(index) = words.index() else {
         return Ok(None);
     };
     let name = text(alloc, name)?;
@@ -138,7 +122,7 @@ fn locals(alloc: Global, words: &mut Words) -> Result<List<Group>, AllocError> {
         let Some(kind) = words.kind() else {
             break;
         };
-        let Some(count) = words.number() else {
+        let Some(count) = words.index() else {
             break;
         };
         groups.push(Group { count, kind })?;
@@ -147,7 +131,7 @@ fn locals(alloc: Global, words: &mut Words) -> Result<List<Group>, AllocError> {
 }
 
 fn func(alloc: Global, words: &mut Words) -> Result<Option<Func>, AllocError> {
-    let Some(ty) = words.number() else {
+    let Some(ty) = words.index() else {
         return Ok(None);
     };
     let locals = locals(alloc, words)?;
@@ -175,7 +159,7 @@ fn global(alloc: Global, words: &mut Words) -> Result<Option<GlobalDef>, AllocEr
 
 // An active segment's index and offset.
 fn active(alloc: Global, words: &mut Words) -> Result<Option<Mode>, AllocError> {
-    let Some(index) = words.number() else {
+    let Some(index) = words.index() else {
         return Ok(None);
     };
     if !words.next_is(":") {
@@ -264,7 +248,7 @@ fn small_part(
         return Ok(true);
     }
     if word == "start" {
-        m.start = words.number();
+        m.start = words.index();
         return Ok(true);
     }
     Ok(false)
@@ -364,7 +348,7 @@ fn parts(alloc: Global, m: &mut Module, line: &str) -> Result<bool, AllocError> 
 
 /// The module that the line writes.
 pub fn module_of(alloc: Global, line: &str) -> Result<Option<Module>, AllocError> {
-    let mut m = empty(alloc);
+    let mut m = empty_module(alloc);
     if line.starts_with("full") {
         if !parts(alloc, &mut m, FULL)? {
             return Ok(None);

@@ -1,6 +1,6 @@
 // What is known of lists of types without comparing them: which ends with which, and which begin alike.
 use crate::parts::kinds;
-use crate::words::{Words, words_of};
+use row_words::{Words, words_of};
 use std::alloc::{AllocError, Global};
 use type_suffixes::Endings;
 
@@ -20,18 +20,18 @@ fn lists(alloc: Global, words: &mut Words) -> Result<Endings, AllocError> {
 
 // Whether the first types of one list end with the first types of another: `1 3 2 2`.
 fn ends(words: &mut Words, endings: &Endings) -> Option<bool> {
-    let longer = words.number()? as usize;
-    let count = words.number()? as usize;
-    let shorter = words.number()? as usize;
-    let n = words.number()? as usize;
+    let longer = words.index()? as usize;
+    let count = words.index()? as usize;
+    let shorter = words.index()? as usize;
+    let n = words.index()? as usize;
     Some(endings.ends_with(longer, count, shorter, n))
 }
 
 // Whether the first types of two lists are the same: `0 1 2`.
 fn alike(words: &mut Words, endings: &Endings) -> Option<bool> {
-    let one = words.number()? as usize;
-    let other = words.number()? as usize;
-    let n = words.number()? as usize;
+    let one = words.index()? as usize;
+    let other = words.index()? as usize;
+    let n = words.index()? as usize;
     Some(endings.begins_alike(one, other, n))
 }
 

@@ -2,18 +2,14 @@
 use Rattle.std.proofs.Common.{◌≡◌, ◌≤◌, ◌<◌, ◌+◌, ℕ, zero, suc, List, [], ◌∷◌, length, get_or, ◌⊎◌, inl, inr, refl, sym, subst, arith}
 use Rattle.std.specs.Prelude.{Bool, true, false, ◌==◌, ◌&&◌, ◌/◌, nat_le}
 use Rattle.std.specs.List.{list_all}
-use Rattle.std.proofs.lemmas.Bool.{eqb-true, true≢false}
-use Rattle.refute_check.specs.Clauses.{Clause, Holds, variable_of}
+use Rattle.std.proofs.lemmas.Bool.{eqb-true, true≢false, and_parts as both}
+use Rattle.refute_check.specs.Clauses.{Clause, HasLiteral, variable_of}
 use Rattle.refute_check.specs.Orders.{Names, NamesAll}
 use Rattle.refute_check.specs.declared.formulas.Cnf.{Cnf}
 use Rattle.clause_solver.specs.Answers.{IsFormula}
 
 abbrev pub is_within : ℕ → ℕ → Bool
 is_within vars variable = nat_le 1 variable && nat_le variable vars
-
-both : (a b : Bool) → (a && b) ≡ true → (a ≡ true) × (b ≡ true)
-both true b e = (refl, e)
-both false b e = absurd (true≢false (sym e))
 
 -- the order names what it has at a place
 pub named-at : (order : List ℕ) (i v : ℕ) (d : ℕ) → i < length order → get_or order i d ≡ v → Names order v
@@ -55,13 +51,13 @@ within-is vars v e =
 abbrev pub is_clause : ℕ → Clause → Bool
 is_clause vars clause = list_all (λ literal. nat_le 1 (literal / 2) && nat_le (literal / 2) vars) clause
 
-named-clause : (vars : ℕ) (order : List ℕ) → ((v : ℕ) → 1 ≤ v → v ≤ vars → Names order v) → (clause : Clause) → is_clause vars clause ≡ true → (l : ℕ) → Holds l clause → Names order (variable_of l)
+named-clause : (vars : ℕ) (order : List ℕ) → ((v : ℕ) → 1 ≤ v → v ≤ vars → Names order v) → (clause : Clause) → is_clause vars clause ≡ true → (l : ℕ) → HasLiteral l clause → Names order (variable_of l)
 named-clause vars order each [] e l h = absurd h
 named-clause vars order each (k ∷ clause) e l h =
     let here = both (is_within vars (k / 2)) (is_clause vars clause) e in
     go here.0 (λ h. named-clause vars order each clause here.1 l h) h
   where
-    go : is_within vars (k / 2) ≡ true → (Holds l clause → Names order (variable_of l)) → (l ≡ k) ⊎ Holds l clause → Names order (variable_of l)
+    go : is_within vars (k / 2) ≡ true → (HasLiteral l clause → Names order (variable_of l)) → (l ≡ k) ⊎ HasLiteral l clause → Names order (variable_of l)
     go first later (inl f) = let w = within-is vars (k / 2) first in subst (λ l. Names order (variable_of l)) (sym f) (each (k / 2) w.0 w.1)
     go first later (inr h) = later h
 

@@ -1,9 +1,9 @@
 // What a line asks.
 use crate::chains::{chain, checked};
 use crate::readings::{clauses, log, log_text, numbers, reads};
-use crate::words::{Words, words_of};
 use clause_solver::{Answer, solve};
 use refute_check::{AcceptBad, Cnf, Items, accept};
+use row_words::{Words, words_of};
 use std::alloc::{AllocError, Global};
 
 fn text(alloc: Global, text: &str) -> Result<String, AllocError> {

@@ -20,7 +20,6 @@ mod chains;
 mod lines;
 mod places;
 mod readings;
-mod words;
 
 use lines::answer;
 use std::io;

@@ -1,6 +1,6 @@
 // Clauses and chains that words spell.
-use crate::words::Words;
 use refute_check::{Chain, Clause, Items, Log};
+use row_words::Words;
 use std::alloc::{AllocError, Global};
 
 /// Whether the next word is this one, which then is read.

@@ -1,9 +1,13 @@
 -- An analysis, a step at a time.
 use Rattle.std.proofs.Common.{◌≡◌, ◌+◌, ℕ, zero, suc, List, [], ◌∷◌, ◌++◌, drop, refl, sym, ap, ◌∙◌, arith, append_assoc}
-use Rattle.std.specs.Prelude.{Some, Bool, true, false, if◌then◌else◌, slice_get}
+use Rattle.std.specs.Prelude.{Option, Some, None, Bool, true, false, if◌then◌else◌, slice_get}
 use Rattle.std.proofs.lemmas.List.{append-nil}
 use Rattle.refute_check.specs.Clauses.{Clause, variable_of}
 use Rattle.refute_check.specs.Logs.{after_step}
+use Rattle.refute_check.specs.Resolution.{each_once}
+use Rattle.clause_solver.specs.code.Literals.{clause_now}
+use Rattle.clause_solver.proofs.Joins.{after_once, once_once}
+use Rattle.clause_solver.proofs.Counts.{has_variable_once}
 use Rattle.refute_check.specs.Machine.{Entry, Trail, Learnt, stays, and_before, has_variable, resolved_with, by_reason, analysed}
 
 -- what is learnt, with these steps before
@@ -85,3 +89,27 @@ pub come_stuck : (cs : List Clause) (enough : Clause → Bool) (t : Trail) (firs
     (c ≡ (analysed cs enough t first).clause) × (steps ≡ (analysed cs enough t first).steps)
 come_stuck cs enough t first i c steps h e at f g k =
     come_end cs enough t first i c steps h (ap (λ u. analysed cs enough u c) (at_entry t i e at) ∙ stuck cs enough e (drop (i + 1) t) c f g k)
+
+-- ---- the clause so far is what it was at first, or the literals
+
+-- the clause so far, whose literals are these
+abbrev pub IsKeptBy : List (ℕ × ℕ) → Clause → Clause → Type 0
+IsKeptBy steps first literals = each_once (clause_now steps first literals) ≡ literals
+
+pub now_stepped : (ss : List (ℕ × ℕ)) (s : ℕ × ℕ) (c ls : Clause) → clause_now (ss ++ s ∷ []) c ls ≡ ls
+now_stepped [] s c ls = refl
+now_stepped (r ∷ ss) s c ls = refl
+
+pub now_after : (cs : List Clause) (s : ℕ × ℕ) (ss : List (ℕ × ℕ)) (c ls : Clause) → IsKeptBy ss c ls → after_step cs s (clause_now ss c ls) ≡ after_step cs s ls
+now_after cs s ss c ls k = sym (after_once cs s (clause_now ss c ls)) ∙ ap (λ x. after_step cs s x) k
+
+pub now_has : (v : ℕ) (ss : List (ℕ × ℕ)) (c ls : Clause) → IsKeptBy ss c ls → has_variable v (clause_now ss c ls) ≡ has_variable v ls
+now_has v ss c ls k = sym (has_variable_once v (clause_now ss c ls)) ∙ ap (λ x. has_variable v x) k
+
+pub now_once : (ss : List (ℕ × ℕ)) (c ls : Clause) → IsKeptBy ss c ls → each_once ls ≡ ls
+now_once ss c ls k = ap (λ x. each_once x) (sym k) ∙ once_once (clause_now ss c ls) ∙ k
+
+-- no reason resolves
+pub no_step : (cs : List Clause) (v : ℕ) (c : Clause) (r : Option ℕ) → ((k : ℕ) → r ≡ Some k → after_step cs (k, v) c ≡ None) → (on : Clause → Learnt) → by_reason cs r v c on ≡ stays c
+no_step cs v c None n on = refl
+no_step cs v c (Some k) n on = ap (λ o. resolved_with o (k, v) c on) (n k refl)

@@ -7,8 +7,8 @@ use Rattle.refute_check.specs.Resolution.{has}
 use Rattle.refute_check.specs.Machine.{Entry, Trail, entry_of, Value, True, False, Unset, value_at, value_of, Status, Falsified, Forces, Idle, status_with, status}
 use Rattle.refute_check.proofs.Membership.{has-holds, holds-has}
 use Rattle.refute_check.proofs.Trails.{status-false, status-forces}
-use Rattle.clause_solver.specs.Watching.{opposite, IsSeenAs, AreAmong}
-use Rattle.clause_solver.specs.Guarding.{IsMet, HoldsTwo, IsGuarded, IsHeld, IsAlert, KeptAs, IsBelow, IsChosen}
+use Rattle.clause_solver.specs.code.Watching.{opposite, IsSeenAs, AreAmong}
+use Rattle.clause_solver.specs.code.Guarding.{IsMet, HasTwo, IsGuarded, IsHeld, IsAlert, KeptAs, IsBelow, IsChosen}
 use Rattle.clause_solver.specs.declared.rules.Status.TheVariants as code
 use Rattle.clause_solver.proofs.Watching.{seen_falsified, seen_forces, seen_idle, value_moved}
 
@@ -46,22 +46,22 @@ at-has (m ∷ c) l h = go (λ k. at-has c l k) (m == l) refl h
     go rec false e h = let r = rec h in (suc r.0, r.1)
 
 -- two literals that the clause holds are at two places
-pub two_held : (c : Clause) (a b : ℕ) → a ≢ b → has c a ≡ true → has c b ≡ true → HoldsTwo c a b
+pub two_held : (c : Clause) (a b : ℕ) → a ≢ b → has c a ≡ true → has c b ≡ true → HasTwo c a b
 two_held c a b n ha hb = go (at-has c a ha) (at-has c b hb)
   where
-    go : (i : ℕ) × (slice_get c i ≡ Some a) → (j : ℕ) × (slice_get c j ≡ Some b) → HoldsTwo c a b
+    go : (i : ℕ) × (slice_get c i ≡ Some a) → (j : ℕ) × (slice_get c j ≡ Some b) → HasTwo c a b
     go x y = (x.0, y.0, λ e. n (same (sym x.1 ∙ ap (λ i. slice_get c i) e ∙ y.1)), x.1, y.1)
       where
         same : Some a ≡ Some b → a ≡ b
         same e = cc
 
-pub two_swapped : (c : Clause) (a b : ℕ) → HoldsTwo c a b → HoldsTwo c b a
+pub two_swapped : (c : Clause) (a b : ℕ) → HasTwo c a b → HasTwo c b a
 two_swapped c a b h = (h.1, h.0, λ e. h.2 (sym e), h.4, h.3)
 
-pub two_are_held : (c : Clause) (a b : ℕ) → HoldsTwo c a b → IsHeld c (a, b)
+pub two_are_held : (c : Clause) (a b : ℕ) → HasTwo c a b → IsHeld c (a, b)
 two_are_held c a b h = inr (has-at c h.0 a h.3, has-at c h.1 b h.4)
 
-pub none_held : (a b : ℕ) {X : Type 0} → HoldsTwo [] a b → X
+pub none_held : (a b : ℕ) {X : Type 0} → HasTwo [] a b → X
 none_held a b h = let e = h.3 in cc
 
 -- ---- what is guarded does nothing
@@ -150,14 +150,14 @@ chosen_forces t c a b l h f n = record { held = inr (here, other h); now = (f, i
     moved s below (inl m) = inl m
     moved s below (inr k) = inr (two_held c l b n here (other h), below l (unset-value t l (status-forces t c l f).free), k.2)
 
-pub chosen_two : (t : Trail) (c : Clause) (a b x y : ℕ) → HoldsTwo c x y → value_of t x ≡ Unset → value_of t y ≡ Unset → IsChosen t c a b (record { first = x; second = y; status = code.Idle })
+pub chosen_two : (t : Trail) (c : Clause) (a b x y : ℕ) → HasTwo c x y → value_of t x ≡ Unset → value_of t y ≡ Unset → IsChosen t c a b (record { first = x; second = y; status = code.Idle })
 chosen_two t c a b x y h u w = record { held = two_are_held c x y h; now = inr (h, u, w); before = λ s below g. inr (h, below x u, below y w) }
 
-pub chosen_beside : (t : Trail) (c : Clause) (a b x y : ℕ) → IsHeld c (a, b) → HoldsTwo c x y → value_of t x ≡ Unset → x ≢ b → value_of t b ≡ Unset → IsChosen t c a b (record { first = x; second = b; status = code.Idle })
+pub chosen_beside : (t : Trail) (c : Clause) (a b x y : ℕ) → IsHeld c (a, b) → HasTwo c x y → value_of t x ≡ Unset → x ≢ b → value_of t b ≡ Unset → IsChosen t c a b (record { first = x; second = b; status = code.Idle })
 chosen_beside t c a b x y h two u n w = go h
   where
     go : IsHeld c (a, b) → IsChosen t c a b (record { first = x; second = b; status = code.Idle })
-    go (inl e) = none_held x y (subst (λ c. HoldsTwo c x y) e two)
+    go (inl e) = none_held x y (subst (λ c. HasTwo c x y) e two)
     go (inr k) = chosen_two t c a b x b (two_held c x b n (has-at c two.0 x two.3) k.1) u w
 
 -- ---- one literal more is true
@@ -210,7 +210,7 @@ kept_put t e free (Some c) p fs gs n a b h = (h.0, go h.1)
     Kept : Type 0
     Kept = IsGuarded (e ∷ t) c p ⊎ IsAlert (e ∷ t) c p fs gs n
 
-    two : HoldsTwo c p.0 p.1 → value_of t p.0 ≡ Unset → value_of t p.1 ≡ Unset → Kept
+    two : HasTwo c p.0 p.1 → value_of t p.0 ≡ Unset → value_of t p.1 ≡ Unset → Kept
     two h u w = by (value_moved t e p.0 a) (value_moved t e p.1 b)
       where
         by : (value_of (e ∷ t) p.0 ≡ True) ⊎ (value_of (e ∷ t) p.0 ≡ value_of t p.0) → (value_of (e ∷ t) p.1 ≡ True) ⊎ (value_of (e ∷ t) p.1 ≡ value_of t p.1) → Kept

@@ -1,63 +1,35 @@
--- Joining two clauses, a literal at a time.
+-- Clauses whose literals stand once each, and what they resolve to.
 use Rattle.std.proofs.Common.{◌≡◌, ◌<◌, ◌+◌, ℕ, List, [], ◌∷◌, ◌++◌, length, take, get_or, refl, sym, ap, ◌∙◌, append_assoc}
-use Rattle.std.specs.Prelude.{Bool, true, false, not, ◌==◌, ◌||◌, ◌&&◌, if◌then◌else◌, Option, Some, None, slice_get}
+use Rattle.std.specs.Prelude.{Bool, true, false, not, ◌==◌, ◌&&◌, if◌then◌else◌, Option, Some, None, slice_get}
 use Rattle.std.specs.Option.{option_and_then}
-use Rattle.std.proofs.lemmas.Bool.{eqb-true, eq-eqb, true≢false}
+use Rattle.std.proofs.lemmas.Bool.{eqb-true, eq-eqb}
 use Rattle.std.proofs.lemmas.List.{take_more, append-nil}
 use Rattle.std.proofs.lemmas.List.Elements.{filter-append}
 use Rattle.refute_check.specs.Clauses.{positive, negative}
 use Rattle.refute_check.specs.Resolution.{has, without, each_once, joined, resolvent}
 use Rattle.refute_check.specs.Logs.{after_step}
-use Rattle.refute_check.proofs.Membership.{has-each_once, swapped, other_literal}
-
--- one literal more, which the clause doesn't hold
-pub once_new : (xs : List ℕ) (x : ℕ) → has xs x ≡ false → each_once (xs ++ x ∷ []) ≡ each_once xs ++ x ∷ []
-once_new [] x h = refl
-once_new (y ∷ xs) x h = go (λ f. once_new xs x f) (y == x) (has xs x) refl refl
-  where
-    go : (has xs x ≡ false → each_once (xs ++ x ∷ []) ≡ each_once xs ++ x ∷ []) → (b d : Bool) → (y == x) ≡ b → has xs x ≡ d → each_once ((y ∷ xs) ++ x ∷ []) ≡ each_once (y ∷ xs) ++ x ∷ []
-    go rec true d e f = absurd (true≢false (sym (ap (λ b. b || has xs x) e) ∙ h))
-    go rec false true e f = absurd (true≢false (sym (ap (λ b. b || has xs x) e ∙ f) ∙ h))
-    go rec false false e f =
-        ap (λ r. y ∷ without y r) (rec f) ∙ ap (λ r. y ∷ r) (filter-append (λ o. not (o == y)) (each_once xs) (x ∷ []) ∙ ap (λ b. without y (each_once xs) ++ (if not b then x ∷ [] else [])) (swapped x y ∙ e))
-
--- and one that it holds already
-pub once_there : (xs : List ℕ) (x : ℕ) → has xs x ≡ true → each_once (xs ++ x ∷ []) ≡ each_once xs
-once_there [] x h = absurd (true≢false (sym h))
-once_there (y ∷ xs) x h = go (λ f. once_there xs x f) (y == x) (has xs x) refl refl
-  where
-    new : (y == x) ≡ true → has xs x ≡ false → without y (each_once xs ++ x ∷ []) ≡ without y (each_once xs)
-    new e f = filter-append (λ o. not (o == y)) (each_once xs) (x ∷ []) ∙ ap (λ b. without y (each_once xs) ++ (if not b then x ∷ [] else [])) (swapped x y ∙ e) ∙ append-nil (without y (each_once xs))
-
-    go : (has xs x ≡ true → each_once (xs ++ x ∷ []) ≡ each_once xs) → (b d : Bool) → (y == x) ≡ b → has xs x ≡ d → each_once ((y ∷ xs) ++ x ∷ []) ≡ each_once (y ∷ xs)
-    go rec b true e f = ap (λ r. y ∷ without y r) (rec f)
-    go rec true false e f = ap (λ r. y ∷ without y r) (once_new xs x f) ∙ ap (λ r. y ∷ r) (new e f)
-    go rec false false e f = absurd (true≢false (sym h ∙ ap (λ b. b || has xs x) e ∙ f))
+use Rattle.refute_check.proofs.Membership.{has-each_once, has-without, other_literal, same_literal}
+use Rattle.refute_check.proofs.EachOnce.{once_new, once_there}
 
 others_more : (l : ℕ) (c : List ℕ) (i : ℕ) → i < length c → without l (take (i + 1) c) ≡ without l (take i c) ++ (if not (get_or c i 0 == l) then get_or c i 0 ∷ [] else [])
 others_more l c i h = ap (λ c. without l c) (take_more c i 0 h) ∙ filter-append (λ o. not (o == l)) (take i c) (get_or c i 0 ∷ [])
 
-pub put_new : (into before : List ℕ) (l : ℕ) (c : List ℕ) (i : ℕ) → i < length c → (get_or c i 0 ≡ l → ⊥) → into ≡ each_once (before ++ without l (take i c)) → has into (get_or c i 0) ≡ false →
-    into ++ get_or c i 0 ∷ [] ≡ each_once (before ++ without l (take (i + 1) c))
-put_new into before l c i h n e f =
-    let xs : List ℕ = before ++ without l (take i c) in
-    let g : has xs (get_or c i 0) ≡ false = sym (has-each_once xs (get_or c i 0)) ∙ ap (λ c'. has c' (get_or c i 0)) (sym e) ∙ f in
-    let m : without l (take (i + 1) c) ≡ without l (take i c) ++ get_or c i 0 ∷ [] = others_more l c i h ∙ ap (λ b. without l (take i c) ++ (if not b then get_or c i 0 ∷ [] else [])) (other_literal (get_or c i 0) l n) in
-    ap (λ r. r ++ get_or c i 0 ∷ []) e ∙ sym (once_new xs (get_or c i 0) g) ∙ ap (λ r. each_once r) (append_assoc before (without l (take i c)) (get_or c i 0 ∷ []) ∙ ap (λ r. before ++ r) (sym m))
+-- one literal more, which is there or not
+pub more_there : (old before : List ℕ) (l : ℕ) → has old l ≡ true → old ≡ each_once before → old ≡ each_once (before ++ l ∷ [])
+more_there old before l h e = e ∙ sym (once_there before l (sym (has-each_once before l) ∙ ap (λ c. has c l) (sym e) ∙ h))
 
-pub put_there : (into before : List ℕ) (l : ℕ) (c : List ℕ) (i : ℕ) → i < length c → (get_or c i 0 ≡ l → ⊥) → into ≡ each_once (before ++ without l (take i c)) → has into (get_or c i 0) ≡ true →
-    into ≡ each_once (before ++ without l (take (i + 1) c))
-put_there into before l c i h n e f =
-    let xs : List ℕ = before ++ without l (take i c) in
-    let g : has xs (get_or c i 0) ≡ true = sym (has-each_once xs (get_or c i 0)) ∙ ap (λ c'. has c' (get_or c i 0)) (sym e) ∙ f in
-    let m : without l (take (i + 1) c) ≡ without l (take i c) ++ get_or c i 0 ∷ [] = others_more l c i h ∙ ap (λ b. without l (take i c) ++ (if not b then get_or c i 0 ∷ [] else [])) (other_literal (get_or c i 0) l n) in
-    e ∙ sym (once_there xs (get_or c i 0) g) ∙ ap (λ r. each_once r) (append_assoc before (without l (take i c)) (get_or c i 0 ∷ []) ∙ ap (λ r. before ++ r) (sym m))
+pub more_new : (old new before : List ℕ) (l : ℕ) → has old l ≡ false → new ≡ old ++ l ∷ [] → old ≡ each_once before → new ≡ each_once (before ++ l ∷ [])
+more_new old new before l h n e = n ∙ ap (λ c. c ++ l ∷ []) e ∙ sym (once_new before l (sym (has-each_once before l) ∙ ap (λ c. has c l) (sym e) ∙ h))
 
-pub put_none : (into before : List ℕ) (l : ℕ) (c : List ℕ) (i : ℕ) → i < length c → get_or c i 0 ≡ l → into ≡ each_once (before ++ without l (take i c)) →
-    into ≡ each_once (before ++ without l (take (i + 1) c))
-put_none into before l c i h n e =
-    let m : without l (take (i + 1) c) ≡ without l (take i c) = others_more l c i h ∙ ap (λ b. without l (take i c) ++ (if not b then get_or c i 0 ∷ [] else [])) (eq-eqb (get_or c i 0) l n) ∙ append-nil _ in
-    e ∙ ap (λ r. each_once (before ++ r)) (sym m)
+-- and the literals of a clause but one
+pub put_other : (before : List ℕ) (l : ℕ) (c : List ℕ) (i : ℕ) → i < length c → (get_or c i 0 ≡ l → ⊥) → (before ++ without l (take i c)) ++ get_or c i 0 ∷ [] ≡ before ++ without l (take (i + 1) c)
+put_other before l c i h n =
+    append_assoc before (without l (take i c)) (get_or c i 0 ∷ [])
+    ∙ ap (λ r. before ++ r) (sym (others_more l c i h ∙ ap (λ b. without l (take i c) ++ (if not b then get_or c i 0 ∷ [] else [])) (other_literal (get_or c i 0) l n)))
+
+pub put_none : (before : List ℕ) (l : ℕ) (c : List ℕ) (i : ℕ) → i < length c → get_or c i 0 ≡ l → before ++ without l (take i c) ≡ before ++ without l (take (i + 1) c)
+put_none before l c i h n =
+    ap (λ r. before ++ r) (sym (others_more l c i h ∙ ap (λ b. without l (take i c) ++ (if not b then get_or c i 0 ∷ [] else [])) (eq-eqb (get_or c i 0) l n) ∙ append-nil (without l (take i c))))
 
 -- ---- a clause that names each literal once
 
@@ -98,15 +70,6 @@ pub once_once : (c : List ℕ) → each_once (each_once c) ≡ each_once c
 once_once [] = refl
 once_once (k ∷ c) = ap (λ c. k ∷ without k c) (once_without k (each_once c) ∙ ap (λ c. without k c) (once_once c)) ∙ ap (λ c. k ∷ c) (without_twice k (each_once c))
 
--- a literal is copied, or left out
-pub copy_new : (others : List ℕ) (l : ℕ) (c : List ℕ) (i : ℕ) → i < length c → (get_or c i 0 ≡ l → ⊥) → others ≡ without l (take i c) → others ++ get_or c i 0 ∷ [] ≡ without l (take (i + 1) c)
-copy_new others l c i h n e =
-    ap (λ r. r ++ get_or c i 0 ∷ []) e ∙ sym (others_more l c i h ∙ ap (λ b. without l (take i c) ++ (if not b then get_or c i 0 ∷ [] else [])) (other_literal (get_or c i 0) l n))
-
-pub copy_none : (others : List ℕ) (l : ℕ) (c : List ℕ) (i : ℕ) → i < length c → get_or c i 0 ≡ l → others ≡ without l (take i c) → others ≡ without l (take (i + 1) c)
-copy_none others l c i h n e =
-    e ∙ sym (others_more l c i h ∙ ap (λ b. without l (take i c) ++ (if not b then get_or c i 0 ∷ [] else [])) (eq-eqb (get_or c i 0) l n) ∙ append-nil (without l (take i c)))
-
 -- what two clauses resolve to names each literal once
 resolvent_once : (c d : List ℕ) (v : ℕ) (r : List ℕ) → resolvent c d v ≡ Some r → each_once r ≡ r
 resolvent_once c d v r e = go (has c (positive v) && has d (negative v)) (has c (negative v) && has d (positive v)) e
@@ -125,3 +88,38 @@ step_once cs s c r e = go (slice_get cs s.0) e
     go : (o : Option (List ℕ)) → option_and_then (λ other. resolvent c other s.1) o ≡ Some r → each_once r ≡ r
     go None e = cc
     go (Some d) e = resolvent_once c d s.1 r e
+
+-- ---- what a clause resolves to doesn't hang on how often it names a literal
+
+once_append : (xs ys : List ℕ) → each_once (each_once xs ++ ys) ≡ each_once (xs ++ ys)
+once_append [] ys = refl
+once_append (k ∷ xs) ys =
+    ap (λ c. k ∷ c)
+    (sym (once_without k (without k (each_once xs) ++ ys))
+    ∙ ap (λ c. each_once c) (filter-append (λ o. not (o == k)) (without k (each_once xs)) ys ∙ ap (λ c. c ++ without k ys) (without_twice k (each_once xs)) ∙ sym (filter-append (λ o. not (o == k)) (each_once xs) ys))
+    ∙ once_without k (each_once xs ++ ys) ∙ ap (λ c. without k c) (once_append xs ys))
+
+joined_once : (p n : ℕ) (c d : List ℕ) → joined p n (each_once c) d ≡ joined p n c d
+joined_once p n c d = ap (λ x. each_once (x ++ without n d)) (sym (once_without p c)) ∙ once_append (without p c) (without n d)
+
+resolvent_of_once : (c d : List ℕ) (v : ℕ) → resolvent (each_once c) d v ≡ resolvent c d v
+resolvent_of_once c d v =
+    rw (has-each_once c (positive v), has-each_once c (negative v), joined_once (positive v) (negative v) c d, joined_once (negative v) (positive v) c d) refl
+
+pub after_once : (cs : List (List ℕ)) (s : ℕ × ℕ) (c : List ℕ) → after_step cs s (each_once c) ≡ after_step cs s c
+after_once cs s c = go (slice_get cs s.0)
+  where
+    go : (o : Option (List ℕ)) → option_and_then (λ other. resolvent (each_once c) other s.1) o ≡ option_and_then (λ other. resolvent c other s.1) o
+    go None = refl
+    go (Some d) = resolvent_of_once c d s.1
+
+pub once_tail : (k : ℕ) (xs : List ℕ) → each_once (k ∷ xs) ≡ k ∷ xs → (each_once xs ≡ xs) × (has xs k ≡ false)
+once_tail k xs e =
+    let f : without k (each_once xs) ≡ xs = cc in (
+      ap (λ c. each_once c) (sym f) ∙ once_without k (each_once xs) ∙ ap (λ c. without k c) (once_once xs) ∙ f,
+      ap (λ c. has c k) (sym f) ∙ has-without k (each_once xs) k ∙ ap (λ b. has (each_once xs) k && not b) (same_literal k) ∙ no (has (each_once xs) k),
+    )
+  where
+    no : (b : Bool) → (b && false) ≡ false
+    no true = refl
+    no false = refl

@@ -6,7 +6,9 @@ pub mod Watching
 pub mod Guarding
 pub mod Settling
 pub mod Visiting
+pub mod Storing
 pub mod Joins
+pub mod Counts
 pub mod Analyses
 pub mod Running
 pub mod Models

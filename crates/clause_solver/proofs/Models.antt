@@ -1,13 +1,13 @@
 -- The values of a model, as an assignment.
 use Rattle.std.proofs.Common.{◌⊎◌, inl, inr, ◌≡◌, ◌<◌, ◌≤◌, ◌-◌, ℕ, zero, suc, List, [], ◌∷◌, ◌++◌, length, refl, sym, ap, ◌∙◌, subst, arith}
 use Rattle.std.specs.Prelude.{Bool, false, Some, slice_get, unwrap_or}
-use Rattle.refute_check.specs.Clauses.{Clause, Assignment, MeetsAll, variable_of}
+use Rattle.refute_check.specs.Clauses.{Clause, Assignment, SatisfiesAll, variable_of}
 use Rattle.refute_check.specs.Machine.{Trail, assigned}
 use Rattle.refute_check.specs.Orders.{Names, NamesAll, AreSame, IsGreater}
 use Rattle.refute_check.specs.declared.formulas.Cnf.{Cnf}
 use Rattle.refute_check.proofs.Least.{model_meets, model_least}
 use Rattle.refute_check.proofs.Refutes.{refuted_accepted}
-use Rattle.clause_solver.specs.Answers.{IsFormula, values_of, assignment_of, IsAnswer, IsRight}
+use Rattle.clause_solver.specs.Answers.{IsFormula, values_of, assignment_of, IsAnswer, IsCorrectAnswer}
 use Rattle.clause_solver.specs.declared.answer.Answer.{Answer}
 use Rattle.clause_solver.specs.declared.answer.Answer.TheVariants.{Model as SaysModel, Refuted as SaysRefuted, Spent as SaysSpent}
 
@@ -26,7 +26,7 @@ length-push : (xs : List Bool) (x : Bool) → length (xs ++ x ∷ []) ≡ suc (l
 length-push [] x = refl
 length-push (z ∷ xs) x = ap suc (length-push xs x)
 
-length-values : (t : Trail) (n : ℕ) → length (values_of t n) ≡ n
+pub length-values : (t : Trail) (n : ℕ) → length (values_of t n) ≡ n
 length-values t zero = refl
 length-values t (suc n) = length-push (values_of t n) (assigned t (suc n)) ∙ ap suc (length-values t n)
 
@@ -54,7 +54,7 @@ values-are t n v a b =
     sym (ap (λ o. unwrap_or o false) (get-values t n (v - 1) (omega (arith, a, b))) ∙ ap (λ v. assigned t v) back)
 
 -- an assignment that gives the same values to these variables does the same
-meets-alike : (a b : Assignment) (order : List ℕ) → ((v : ℕ) → Names order v → a v ≡ b v) → (cs : List Clause) → NamesAll order cs → MeetsAll a cs → MeetsAll b cs
+meets-alike : (a b : Assignment) (order : List ℕ) → ((v : ℕ) → Names order v → a v ≡ b v) → (cs : List Clause) → NamesAll order cs → SatisfiesAll a cs → SatisfiesAll b cs
 meets-alike a b order same [] n m = tt
 meets-alike a b order same (c ∷ cs) n m = ((m.0.0, m.0.1, sym (same (variable_of m.0.0) (n.0 m.0.0 m.0.1)) ∙ m.0.2), meets-alike a b order same cs n.1 m.1)
 
@@ -83,11 +83,11 @@ greater-alike a b o order same g = (
 )
 
 -- what the machine gives is right
-pub answer_is_right : (cnf : Cnf) (bound : ℕ) → IsFormula cnf → (answer : Answer) → IsAnswer cnf bound answer → IsRight cnf answer
+pub answer_is_right : (cnf : Cnf) (bound : ℕ) → IsFormula cnf → (answer : Answer) → IsAnswer cnf bound answer → IsCorrectAnswer cnf answer
 answer_is_right cnf bound f SaysSpent h = tt
 answer_is_right cnf bound f (SaysRefuted log) h = refuted_accepted cnf.clauses cnf.order bound h.0 log h.1
 answer_is_right cnf bound f (SaysModel values) h =
-    subst (λ values. IsRight cnf (SaysModel values)) (sym h.2) (
+    subst (λ values. IsCorrectAnswer cnf (SaysModel values)) (sym h.2) (
       meets-alike (assigned h.0) (assignment_of (values_of h.0 cnf.vars)) cnf.order same cnf.clauses f.literals (model_meets cnf.clauses cnf.order bound f.literals h.1.0 h.0 h.1.1),
       λ other m. go other (model_least cnf.clauses cnf.order bound f.literals h.1.0 h.0 h.1.1 other m),
     )

@@ -7,7 +7,7 @@ use Rattle.std.specs.BTreeSet.{BTreeSet, contains, Updates, UpdatesBy, IsLowerBo
 use Rattle.std.proofs.lemmas.Bool.{eqb-true, eq-eqb, ltb-true, true≢false}
 use Rattle.refute_check.specs.Resolution.{has}
 use Rattle.refute_check.proofs.Sets.{contains-has, insert-has, remove-has}
-use Rattle.clause_solver.specs.Watching.{AreAmong}
+use Rattle.clause_solver.specs.code.Watching.{AreAmong}
 
 pub least_below : (s : BTreeSet ℕ) (k : ℕ) → IsLowerBound nat_cmp s k → (n : ℕ) → has s.keys n ≡ true → k ≤ n
 least_below s k low n h = go (nat_lt k n) (k == n) refl refl (low n (contains-has s n ∙ h))

@@ -5,7 +5,7 @@ use Rattle.std.proofs.lemmas.Bool.{eqb-true, eq-eqb, ltb-true}
 use Rattle.std.proofs.lemmas.List.{get_or_push, get_or_append_left, length-reverse, get_or-set_same, get_or-set_other, get_or_past, reverse-reverse, reverse-append}
 use Rattle.refute_check.specs.Clauses.{variable_of}
 use Rattle.refute_check.specs.Machine.{Entry, Trail, entry_of}
-use Rattle.clause_solver.specs.Places.{place_of, IsPlaced}
+use Rattle.clause_solver.specs.code.Places.{place_of, IsPlaced}
 
 pub place_small : (t : Trail) (v : ℕ) → place_of t v ≤ length t
 place_small [] v = omega arith

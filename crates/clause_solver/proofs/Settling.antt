@@ -2,15 +2,15 @@
 use Rattle.std.proofs.Common.{◌⊎◌, inl, inr, ◌≡◌, ◌<◌, ◌≤◌, ℕ, zero, suc, List, [], ◌∷◌, ◌++◌, length, refl, sym, ap, ◌∙◌, subst, arith, append_assoc}
 use Rattle.std.specs.Prelude.{Bool, true, false, ◌==◌, if◌then◌else◌, max, Option, Some, None, slice_get, nat_lt}
 use Rattle.std.proofs.lemmas.Bool.{eqb-true, ltb-true}
-use Rattle.refute_check.specs.Clauses.{Clause, Holds, variable_of}
+use Rattle.refute_check.specs.Clauses.{Clause, HasLiteral, variable_of}
 use Rattle.refute_check.specs.Resolution.{has}
 use Rattle.refute_check.specs.Machine.{Entry, Trail, entry_of, level_now, level_at, level_of, value_at, value_of, Unset, Status, Falsified, Forces, Idle, status, falsified, forced, forced_with, cut, count_at, highest_but}
 use Rattle.refute_check.specs.Rising.{level_after, IsLevelled}
 use Rattle.refute_check.proofs.Latest.{level_before, levelled_cut}
 use Rattle.refute_check.proofs.Membership.{holds-has}
 use Rattle.refute_check.proofs.Trails.{not-falsified, unset-none}
-use Rattle.clause_solver.specs.Places.{IsOnce}
-use Rattle.clause_solver.specs.Guarding.{IsGuarded, IsHeld, IsAlert, KeptAs, AllKept, GuardedAs, AreGuarded, WereGuarded, IsSettled, IsBelow}
+use Rattle.clause_solver.specs.code.Places.{IsOnce}
+use Rattle.clause_solver.specs.code.Guarding.{IsGuarded, IsHeld, IsAlert, KeptAs, AllKept, GuardedAs, AreGuarded, WereGuarded, IsSettled, IsBelow}
 use Rattle.clause_solver.proofs.Guarding.{two_held, unset-value}
 
 -- ---- where no rule on clauses fits
@@ -135,12 +135,12 @@ unset_below front s l o h high = go (entry_of s (variable_of l)) refl
         let same : level_of (front ++ s) l ≡ x.level = ap (λ o. level_at o) (entry_later front s (variable_of l) x o e) in
         absurd (omega (arith, low, same, high))
 
-pub last_held : (t : Trail) (level : ℕ) (c : Clause) → 1 ≤ count_at t level c → (l : ℕ) × Holds l c × (level_of t l ≡ level)
+pub last_held : (t : Trail) (level : ℕ) (c : Clause) → 1 ≤ count_at t level c → (l : ℕ) × HasLiteral l c × (level_of t l ≡ level)
 last_held t level [] h = absurd (omega (arith, h))
 last_held t level (l ∷ c) h = go (λ k. last_held t level c k) (level_of t l == level) refl h
   where
-    go : (1 ≤ count_at t level c → (m : ℕ) × Holds m c × (level_of t m ≡ level)) → (b : Bool) → (level_of t l == level) ≡ b →
-        1 ≤ (if b then suc (count_at t level c) else count_at t level c) → (m : ℕ) × Holds m (l ∷ c) × (level_of t m ≡ level)
+    go : (1 ≤ count_at t level c → (m : ℕ) × HasLiteral m c × (level_of t m ≡ level)) → (b : Bool) → (level_of t l == level) ≡ b →
+        1 ≤ (if b then suc (count_at t level c) else count_at t level c) → (m : ℕ) × HasLiteral m (l ∷ c) × (level_of t m ≡ level)
     go rec true e k = (l, inl refl, eqb-true (level_of t l) level e)
     go rec false e k = let r = rec k in (r.0, inr r.1, r.2)
 
@@ -151,18 +151,18 @@ max_either a b = go (nat_lt a b) refl
     go true e = let l : a < b = ltb-true a b e in inr (omega (arith, l))
     go false e = let l : b ≤ a = grind (arith, e) in inl (omega (arith, l))
 
-pub highest_held : (t : Trail) (level : ℕ) (c : Clause) → 1 ≤ highest_but t level c → (l : ℕ) × Holds l c × (level_of t l ≡ highest_but t level c)
+pub highest_held : (t : Trail) (level : ℕ) (c : Clause) → 1 ≤ highest_but t level c → (l : ℕ) × HasLiteral l c × (level_of t l ≡ highest_but t level c)
 highest_held t level [] h = absurd (omega (arith, h))
 highest_held t level (l ∷ c) h = go (λ k. highest_held t level c k) (level_of t l == level) refl h
   where
-    go : (1 ≤ highest_but t level c → (m : ℕ) × Holds m c × (level_of t m ≡ highest_but t level c)) → (b : Bool) → (level_of t l == level) ≡ b →
+    go : (1 ≤ highest_but t level c → (m : ℕ) × HasLiteral m c × (level_of t m ≡ highest_but t level c)) → (b : Bool) → (level_of t l == level) ≡ b →
         1 ≤ (if b then highest_but t level c else max (level_of t l) (highest_but t level c)) →
-        (m : ℕ) × Holds m (l ∷ c) × (level_of t m ≡ (if b then highest_but t level c else max (level_of t l) (highest_but t level c)))
+        (m : ℕ) × HasLiteral m (l ∷ c) × (level_of t m ≡ (if b then highest_but t level c else max (level_of t l) (highest_but t level c)))
     go rec true e k = let r = rec k in (r.0, inr r.1, r.2)
     go rec false e k = by (max_either (level_of t l) (highest_but t level c))
       where
         by : (max (level_of t l) (highest_but t level c) ≡ level_of t l) ⊎ (max (level_of t l) (highest_but t level c) ≡ highest_but t level c) →
-            (m : ℕ) × Holds m (l ∷ c) × (level_of t m ≡ max (level_of t l) (highest_but t level c))
+            (m : ℕ) × HasLiteral m (l ∷ c) × (level_of t m ≡ max (level_of t l) (highest_but t level c))
         by (inl f) = (l, inl refl, sym f)
         by (inr f) = let r = rec (subst (λ n. 1 ≤ n) f k) in (r.0, inr r.1, r.2 ∙ sym f)
 
@@ -284,7 +284,7 @@ settled_learnt t u cs ds ps qs c d level p is more same count o l s e low some h
     some' : 1 ≤ count_at t (level_now t) c
     some' = subst (λ d. 1 ≤ count_at t (level_now t) d) same some
 
-    x : (m : ℕ) × Holds m c × (level_of t m ≡ level_now t)
+    x : (m : ℕ) × HasLiteral m c × (level_of t m ≡ level_now t)
     x = last_held t (level_now t) c some'
 
     la : level_of t p.0 ≡ level_now t
@@ -296,7 +296,7 @@ settled_learnt t u cs ds ps qs c d level p is more same count o l s e low some h
         second y.0 (ap (λ d. has d y.0) same ∙ holds-has c y.0 y.1) (y.2 ∙ sym e)
 
     go : IsHeld d p → (front : Trail) × (t ≡ front ++ cut level t) → IsSettled u ds qs
-    go (inl k) f = let z = subst (λ c. Holds x.0 c) (sym same ∙ k) x.1 in absurd z
+    go (inl k) f = let z = subst (λ c. HasLiteral x.0 c) (sym same ∙ k) x.1 in absurd z
     go (inr k) f = subst (λ u. IsSettled u ds qs) (sym is)
         (learnt_from level p.0 p.1 c cs ds ps qs more count (sym (ap (λ d. has d p.0) same) ∙ k.0) (sym (ap (λ d. has d p.1) same) ∙ k.1) f.0 [] (cut level t) (subst (λ t. IsOnce t) f.1 o) (levelled_cut level t l) (cut_low level t)
         (subst (λ t. level < level_of t p.0) f.1 (let y = la in omega (arith, y, low))) (λ j. subst (λ t. level_of t p.1 ≡ level) f.1 (lb j))

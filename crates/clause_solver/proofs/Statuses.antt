@@ -1,7 +1,7 @@
 -- What clauses are on a trail, a step at a time.
 use Rattle.std.proofs.Common.{◌≡◌, ◌<◌, ◌≤◌, ◌+◌, ℕ, zero, suc, List, [], ◌∷◌, length, drop, get_or, refl, sym, ap, ◌∙◌, arith}
 use Rattle.std.specs.Prelude.{Option, Some, None, IfSome, slice_get}
-use Rattle.clause_solver.specs.Seen.{status_seen}
+use Rattle.clause_solver.specs.code.Seen.{status_seen}
 use Rattle.clause_solver.specs.declared.rules.Status.{Status as OneStatus}
 use Rattle.clause_solver.specs.declared.rules.Status.TheVariants.{Falsified as IsFalsified, Forces as DoesForce, Idle as IsIdle}
 use Rattle.refute_check.specs.Machine.{Trail, False, Unset, value_of, Status, Falsified, Forces, status_with, status}

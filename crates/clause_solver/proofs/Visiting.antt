@@ -6,9 +6,9 @@ use Rattle.refute_check.specs.Clauses.{Clause}
 use Rattle.refute_check.specs.Resolution.{has}
 use Rattle.refute_check.specs.Machine.{Trail, Entry, entry_of}
 use Rattle.refute_check.specs.Clauses.{variable_of}
-use Rattle.clause_solver.specs.Watching.{opposite, listed, AreAmong, IsNoted, Put}
-use Rattle.clause_solver.specs.Guarding.{IsGuarded, IsHeld, IsAlert, KeptAs, AllKept, GuardedAs, ListedAs, IsBelow, Watches as CanWatch, IsChosen}
-use Rattle.clause_solver.specs.Renewing.{pair_at, IsKeptIn, IsGuardedIn, IsListedIn, IsSound, Renewed, IsWatchedBy, HeldAs, ListedBut, Visited}
+use Rattle.clause_solver.specs.code.Watching.{opposite, listed, AreAmong, IsNoted, Put}
+use Rattle.clause_solver.specs.code.Guarding.{IsGuarded, IsHeld, IsAlert, KeptAs, AllKept, GuardedAs, ListedAs, IsBelow, Watches as CanWatch, IsChosen}
+use Rattle.clause_solver.specs.code.Renewing.{pair_at, IsKeptIn, IsGuardedIn, IsListedIn, IsSound, Renewed, IsWatchedBy, HeldAs, ListedBut, Visited}
 use Rattle.clause_solver.specs.declared.watches.Watches.{Watches}
 use Rattle.clause_solver.specs.declared.rules.Choice.{Choice}
 use Rattle.clause_solver.specs.declared.rules.Status.{Status}

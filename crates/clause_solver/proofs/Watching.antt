@@ -8,7 +8,7 @@ use Rattle.refute_check.specs.Clauses.{Clause, variable_of}
 use Rattle.refute_check.specs.Resolution.{has}
 use Rattle.refute_check.specs.Machine.{Entry, Trail, entry_of, Value, True, False, Unset, value_at, value_of, Status, Falsified, Forces, Idle, status_with, status, falsified_with, falsified, forced_with, forced, unset_with, unset}
 use Rattle.refute_check.proofs.Membership.{apart}
-use Rattle.clause_solver.specs.Watching.{opposite, status_at, IsSeenAs, IsSeen, AreAmong, listed, Put, AllSet}
+use Rattle.clause_solver.specs.code.Watching.{opposite, status_at, IsSeenAs, IsSeen, AreAmong, listed, Put, AllSet}
 
 pub among_then : (ks ls ms : List ℕ) → AreAmong ks ls → AreAmong ls ms → AreAmong ks ms
 among_then ks ls ms a b = λ n h. b n (a n h)

@@ -1,6 +1,6 @@
 -- What the solver answers.
 use Rattle.std.specs.Prelude.{◌≡◌, ℕ, zero, suc, ◌-◌, ◌≤◌, Bool, false, List, [], ◌∷◌, ◌++◌, length, slice_get, unwrap_or, ◌⊎◌}
-use Rattle.refute_check.specs.Clauses.{Assignment, MeetsAll}
+use Rattle.refute_check.specs.Clauses.{Assignment, SatisfiesAll}
 use Rattle.refute_check.specs.Logs.{IsAccepted}
 use Rattle.refute_check.specs.Machine as machine
 use Rattle.refute_check.specs.Orders.{Names, NamesAll, AreSame, IsGreater}
@@ -36,10 +36,10 @@ IsAnswer cnf bound (Refuted log) = ComesTo cnf bound (machine.Refuted log)
 IsAnswer cnf bound Spent = ComesTo cnf bound machine.Spent
 
 -- A model meets the clauses, and every other assignment that does is greater; a log is accepted.
-abbrev pub IsRight : Cnf → Answer → Type 0
-IsRight cnf (Model values) =
-    MeetsAll (assignment_of values) cnf.clauses
-    × ((other : Assignment) → MeetsAll other cnf.clauses
+abbrev pub IsCorrectAnswer : Cnf → Answer → Type 0
+IsCorrectAnswer cnf (Model values) =
+    SatisfiesAll (assignment_of values) cnf.clauses
+    × ((other : Assignment) → SatisfiesAll other cnf.clauses
     → AreSame (assignment_of values) other cnf.order ⊎ IsGreater cnf.order (assignment_of values) other)
-IsRight cnf (Refuted log) = IsAccepted cnf.clauses log
-IsRight cnf Spent = Unit {0}
+IsCorrectAnswer cnf (Refuted log) = IsAccepted cnf.clauses log
+IsCorrectAnswer cnf Spent = Unit {0}

@@ -1,8 +1,2 @@
-pub mod Seen
-pub mod Places
-pub mod Watching
-pub mod Guarding
-pub mod Renewing
-pub mod Analysis
-pub mod Turned
 pub mod Answers
+pub mod code

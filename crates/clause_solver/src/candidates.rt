@@ -2,8 +2,8 @@
 ghost use Rattle.std.specs.Prelude.{◌≡◌, ◌≤◌, ◌<◌, ◌⊎◌, ℕ, List, [], ◌∷◌, Some, None, true, IsTrue, length, slice_get, OnOk, MatchOption};
 ghost use Rattle.refute_check.specs.Machine.{falsified as falsified_of, forced as forced_of};
 ghost use Rattle.refute_check.specs.Resolution.{has};
-ghost use Rattle.clause_solver.specs.Guarding.{AllKept};
-ghost use Rattle.clause_solver.specs.Watching.{IsSeen, AreAmong, IsNoted};
+ghost use Rattle.clause_solver.specs.code.Guarding.{AllKept};
+ghost use Rattle.clause_solver.specs.code.Watching.{IsSeen, AreAmong, IsNoted};
 
 use crate::rules::{Status, numbered_status};
 use crate::trail::Trail;

@@ -11,6 +11,7 @@ mod candidates;
 pub mod crossing;
 pub mod laws;
 mod lists;
+mod literals;
 mod machine;
 mod resolution;
 mod rules;

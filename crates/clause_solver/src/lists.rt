@@ -1,8 +1,8 @@
 // For each literal the numbers of the clauses that hold it.
 ghost use Rattle.std.specs.Prelude.{◌≡◌, ◌≢◌, ◌<◌, ◌++◌, ◌∷◌, [], ◌⊎◌, ℕ, true, Some, length, map, slice_set, OnOk};
 ghost use Rattle.refute_check.specs.Resolution.{has};
-ghost use Rattle.clause_solver.specs.Watching.{Put, AreAmong, listed};
-ghost use Rattle.clause_solver.specs.Guarding.{ListedAs};
+ghost use Rattle.clause_solver.specs.code.Watching.{Put, AreAmong, listed};
+ghost use Rattle.clause_solver.specs.code.Guarding.{ListedAs};
 
 use std::alloc::{AllocError, Global};
 use std::marker::Model;

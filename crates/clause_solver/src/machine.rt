@@ -4,12 +4,13 @@ ghost use Rattle.refute_check.specs.Clauses.{variable_of};
 ghost use Rattle.refute_check.specs.Machine.{On as GoesOn, level_now, highest_but as highest_of, count_at as count_of, cut as cut_to, entry_of, turn as turn_of, conflict as conflict_of, decide as decide_of, puts as puts_of, unset as unset_of, start as start_of};
 ghost use Rattle.refute_check.specs.Orders.{Names};
 ghost use Rattle.refute_check.specs.Rising.{Rises, level_after};
-ghost use Rattle.clause_solver.specs.Turned.{seen, IsTurn, IsWatched};
-ghost use Rattle.clause_solver.specs.Watching.{opposite};
-ghost use Rattle.clause_solver.specs.Guarding.{AreGuarded, WereGuarded};
-ghost use Rattle.clause_solver.specs.Renewing.{IsSound};
+ghost use Rattle.clause_solver.specs.code.Turned.{seen, IsTurn, IsWatched};
+ghost use Rattle.clause_solver.specs.code.Watching.{opposite};
+ghost use Rattle.clause_solver.specs.code.Guarding.{AreGuarded, WereGuarded};
+ghost use Rattle.clause_solver.specs.code.Renewing.{IsSound};
 
 use crate::analysis::{Until, analysed, count_at, highest_but};
+use crate::literals::Literals;
 use crate::rules::unset;
 use crate::trail::{Entry, Trail};
 use crate::watches::{Watches, pair_of, watches_of};
@@ -39,6 +40,8 @@ pub struct State {
     pub conflicts: u64,
     /// Which clauses watch which literals, and which are falsified or force one.
     pub watches: Watches,
+    /// The literals of a clause that is being resolved.
+    pub literals: Literals,
     /// So many variables of the order are set.
     pub ahead: usize,
     /// Whether it is known that before each decision every clause was true, or what it watches was unset.
@@ -58,6 +61,7 @@ impl State {
             log: Items::new(Vec::new(alloc)),
             conflicts: 0,
             watches,
+            literals: Literals::new(alloc),
             ahead: 0,
             settled: true,
         })
@@ -116,6 +120,7 @@ impl State {
                 alloc,
                 self.clauses.as_slice(),
                 &self.trail,
+                &mut self.literals,
                 clause,
                 Until::Empty,
             )?;
@@ -132,6 +137,7 @@ impl State {
             alloc,
             self.clauses.as_slice(),
             &self.trail,
+            &mut self.literals,
             clause,
             Until::Learnt,
         )?;

@@ -1,102 +1,150 @@
-// Resolution of two clauses, with the literals in order.
-ghost use Rattle.std.specs.Prelude.{◌≡◌, ◌++◌, ◌&&◌, ℕ, List, IsTrue, IfOk, OnOk};
+// Resolution of a clause, whose literals are kept apart, with others.
+ghost use Rattle.std.specs.Prelude.{◌≡◌, ◌<◌, ◌^◌, ◌++◌, ◌∷◌, [], ◌&&◌, ℕ, List, Some, None, true, IfOk, OnOk, MatchOption};
 ghost use Rattle.refute_check.specs.Resolution.{has, without, each_once, joined as joined_of, resolvent as resolvent_of};
+ghost use Rattle.refute_check.specs.Machine.{count_at as count_of};
 
-use refute_check::{Clause, Items};
-use std::alloc::{AllocError, Global};
+use crate::literals::Literals;
+use crate::trail::Trail;
+use std::alloc::AllocError;
 
-/// What the two clauses resolve to on the variable, or None where they don't. It is faster where the first is known to
-/// name each literal once.
-pub fn resolvent(
-    alloc: Global,
-    first: &[u64],
-    second: &[u64],
+/// Resolves the clause of these literals, of which so many have this level, with another one on a variable. It says how many
+/// of the result's have that level, or None where the two don't resolve; the literals then stay. It takes as long as the
+/// other clause is.
+pub fn resolve(
+    trail: &Trail,
+    level: u64,
+    literals: &mut Literals,
+    many: usize,
+    other: &[u64],
     variable: u64,
-    once: bool,
-) -> Result<Option<Clause>, AllocError>
-    requires { IsTrue once → each_once first.now ≡ first.now }
-    ensures { IfOk result (λ found. found ≡ resolvent_of first.now second.now variable) }
+) -> Result<Option<usize>, AllocError>
+    requires small { variable < 2 ^ 63 }
+    requires once { each_once literals.old ≡ literals.old }
+    requires counted { many ≡ count_of trail.now level literals.old }
+    ensures { IfOk result (λ found. MatchOption found ((resolvent_of literals.old other.now variable ≡ None) × (literals.new ≡ literals.old))
+        (λ many. (resolvent_of literals.old other.now variable ≡ Some literals.new) × (many ≡ count_of trail.now level literals.new))) }
 {
-    if variable > u64::MAX / 2 {
-        return Ok(None);
-    }
     let positive = 2 * variable;
     let negative = positive + 1;
-    if fit(first, positive, second, negative) {
-        let clause = joined(alloc, positive, negative, first, second, once)?;
-        return Ok(Some(clause));
+    if fit(literals, positive, other, negative) {
+        let many = join(trail, level, literals, many, other, (positive, negative))?;
+        return Ok(Some(many));
     }
-    if fit(first, negative, second, positive) {
-        let clause = joined(alloc, negative, positive, first, second, once)?;
-        return Ok(Some(clause));
+    if fit(literals, negative, other, positive) {
+        let many = join(trail, level, literals, many, other, (negative, positive))?;
+        return Ok(Some(many));
     }
     Ok(None)
 }
 
 // Whether the first holds the literal, and the second its negation.
-fn fit(first: &[u64], literal: u64, second: &[u64], negation: u64) -> bool
+fn fit(first: &Literals, literal: u64, second: &[u64], negation: u64) -> bool
     ensures { result ≡ (has first.now literal && has second.now negation) }
 {
-    holds(first, literal) && holds(second, negation)
+    first.has(literal) && has_literal(second, negation)
 }
 
-fn holds(clause: &[u64], literal: u64) -> bool
+fn has_literal(clause: &[u64], literal: u64) -> bool
     ensures { result ≡ has clause.now literal }
 {
     clause.iter().any(|other| *other == literal)
 }
 
-fn joined(
-    alloc: Global,
+// Takes off the first of the pair, and puts in the literals of the other clause but the second.
+fn join(
+    trail: &Trail,
+    level: u64,
+    literals: &mut Literals,
+    many: usize,
+    other: &[u64],
+    pair: (u64, u64),
+) -> Result<usize, AllocError>
+    requires there { has literals.old pair.0 ≡ true }
+    requires once { each_once literals.old ≡ literals.old }
+    requires counted { many ≡ count_of trail.now level literals.old }
+    ensures joined { OnOk result (literals.new ≡ joined_of pair.0 pair.1 literals.old other.now) }
+    ensures counted { IfOk result (λ many. many ≡ count_of trail.now level literals.new) }
+{
+    let left = take_off(trail, level, literals, many, pair.0);
+    let many = put_others(trail, level, literals, left, other, pair.1)?;
+    Ok(many)
+}
+
+fn take_off(trail: &Trail, level: u64, literals: &mut Literals, many: usize, literal: u64) -> usize
+    requires there { has literals.old literal ≡ true }
+    requires once { each_once literals.old ≡ literals.old }
+    requires counted { many ≡ count_of trail.now level literals.old }
+    ensures off { literals.new ≡ without literal literals.old }
+    ensures counted { result ≡ count_of trail.now level literals.new }
+{
+    literals.take_off(literal);
+    if trail.level(literal) == level {
+        many - 1
+    } else {
+        many
+    }
+}
+
+/// Lets the literals be those of a clause, each once, and says how many of them have this level.
+pub fn put_all(
+    trail: &Trail,
+    level: u64,
+    literals: &mut Literals,
+    clause: &[u64],
+) -> Result<usize, AllocError>
+    ensures put { OnOk result (literals.new ≡ each_once clause.now) }
+    ensures counted { IfOk result (λ many. many ≡ count_of trail.now level literals.new) }
+{
+    literals.clear();
+    let mut many = 0;
+    for literal in clause {
+        many = put(trail, level, literals, many, *literal)?;
+    }
+    Ok(many)
+}
+
+// Puts in the literals of a clause but one, where they aren't there yet.
+fn put_others(
+    trail: &Trail,
+    level: u64,
+    literals: &mut Literals,
+    many: usize,
+    clause: &[u64],
+    but: u64,
+) -> Result<usize, AllocError>
+    requires counted { many ≡ count_of trail.now level literals.old }
+    ensures put { OnOk result ((before : List ℕ) → literals.old ≡ each_once before → literals.new ≡ each_once (before ++ without but clause.now)) }
+    ensures counted { IfOk result (λ many. many ≡ count_of trail.now level literals.new) }
+{
+    let mut many = many;
+    for literal in clause {
+        if *literal != but {
+            many = put(trail, level, literals, many, *literal)?;
+        }
+    }
+    Ok(many)
+}
+
+// Puts one in, where it isn't there yet.
+fn put(
+    trail: &Trail,
+    level: u64,
+    literals: &mut Literals,
+    many: usize,
     literal: u64,
-    negation: u64,
-    first: &[u64],
-    second: &[u64],
-    once: bool,
-) -> Result<Clause, AllocError>
-    requires { IsTrue once → each_once first.now ≡ first.now }
-    ensures { IfOk result (λ clause. clause ≡ joined_of literal negation first.now second.now) }
+) -> Result<usize, AllocError>
+    requires { many ≡ count_of trail.now level literals.old }
+    ensures put { OnOk result ((before : List ℕ) → literals.old ≡ each_once before → literals.new ≡ each_once (before ++ literal ∷ [])) }
+    ensures counted { IfOk result (λ many. many ≡ count_of trail.now level literals.new) }
 {
-    let mut clause = others(alloc, first, literal, once)?;
-    put_others(&mut clause, second, negation)?;
-    Ok(clause)
-}
-
-// The literals but one, each once.
-fn others(alloc: Global, clause: &[u64], literal: u64, once: bool) -> Result<Clause, AllocError>
-    requires { IsTrue once → each_once clause.now ≡ clause.now }
-    ensures { IfOk result (λ others. others ≡ each_once (without literal clause.now)) }
-{
-    if once {
-        let others = copy_others(alloc, clause, literal)?;
-        return Ok(others);
+    if literals.has(literal) {
+        return Ok(many);
     }
-    let mut others = Items::new(Vec::new(alloc));
-    put_others(&mut others, clause, literal)?;
-    Ok(others)
-}
-
-// The literals but one, as they are.
-fn copy_others(alloc: Global, clause: &[u64], literal: u64) -> Result<Clause, AllocError>
-    ensures { IfOk result (λ others. others ≡ without literal clause.now) }
-{
-    let mut others = Items::new(Vec::new(alloc));
-    for other in clause {
-        if *other != literal {
-            others.push(*other)?;
-        }
+    let _many = literals.len();
+    literals.put(literal)?;
+    if trail.level(literal) == level {
+        Ok(many + 1)
+    } else {
+        Ok(many)
     }
-    Ok(others)
-}
-
-// Puts in the literals but one, where they aren't there yet.
-fn put_others(into: &mut Clause, clause: &[u64], literal: u64) -> Result<(), AllocError>
-    ensures { OnOk result ((before : List ℕ) → into.old ≡ each_once before → into.new ≡ each_once (before ++ without literal clause.now)) }
-{
-    for other in clause {
-        if *other != literal && !holds(into.as_slice(), *other) {
-            into.push(*other)?;
-        }
-    }
-    Ok(())
 }

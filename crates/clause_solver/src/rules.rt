@@ -1,9 +1,9 @@
 // What the clauses are on a trail.
 ghost use Rattle.std.specs.Prelude.{◌≡◌, IsTrue, slice_get, take};
 ghost use Rattle.refute_check.specs.Machine.{status as status_of, unset as unset_of, value_of, True as IsNowTrue, Unset as IsNowUnset};
-ghost use Rattle.clause_solver.specs.Seen.{status_seen};
-ghost use Rattle.clause_solver.specs.Watching.{status_at, AllSet};
-ghost use Rattle.clause_solver.specs.Guarding.{IsHeld, LookIs, IsChosen};
+ghost use Rattle.clause_solver.specs.code.Seen.{status_seen};
+ghost use Rattle.clause_solver.specs.code.Watching.{status_at, AllSet};
+ghost use Rattle.clause_solver.specs.code.Guarding.{IsHeld, LookIs, IsChosen};
 ghost use Rattle.clause_solver.specs.declared.rules.Look.TheVariants.{Two as TwoUnset};
 
 use crate::trail::{Trail, Value};

@@ -1,6 +1,6 @@
 // The solver.
 ghost use Rattle.std.specs.Prelude.{◌≡◌, ◌<◌, ◌≤◌, IfOk};
-ghost use Rattle.clause_solver.specs.Answers.{IsFormula, IsAnswer, IsRight, values_of};
+ghost use Rattle.clause_solver.specs.Answers.{IsFormula, IsAnswer, IsCorrectAnswer, values_of};
 
 use crate::answer::Answer;
 use crate::machine::{State, Turned};
@@ -16,7 +16,7 @@ pub fn solve(alloc: Global, cnf: &Cnf, conflicts: u64) -> Result<Answer, AllocEr
     requires formula { IsFormula cnf.now }
     requires conflicts { 1 ≤ conflicts }
     ensures exact { IfOk result (λ answer. IsAnswer cnf.now conflicts answer) }
-    ensures right { IfOk result (λ answer. IsRight cnf.now answer) }
+    ensures right { IfOk result (λ answer. IsCorrectAnswer cnf.now answer) }
 {
     let answer = run(alloc, cnf, conflicts)?;
     Ok(answer)

@@ -3,7 +3,7 @@ ghost use Rattle.std.specs.Prelude.{◌≡◌, ◌<◌, ◌+◌, ◌^◌, [], �
 ghost use Rattle.refute_check.specs.Machine.{Entry as OneEntry, entry_of, value_of, level_now, level_of, assigned, has_decision as decided_on, cut as cut_to};
 ghost use Rattle.refute_check.specs.Rising.{Rises};
 ghost use Rattle.refute_check.specs.Clauses.{variable_of};
-ghost use Rattle.clause_solver.specs.Seen.{value_seen};
+ghost use Rattle.clause_solver.specs.code.Seen.{value_seen};
 
 use std::alloc::{AllocError, Global};
 use std::marker::Model;
@@ -38,7 +38,8 @@ impl Copy for Entry {}
 impl Entry {
     /// The variable of the literal.
     pub fn variable(&self) -> u64
-        ensures { result ≡ variable_of self.now.literal }
+        ensures exact { result ≡ variable_of self.now.literal }
+        ensures small { result < 2 ^ 63 }
     {
         self.literal / 2
     }
@@ -66,7 +67,7 @@ impl Model for Trail {
 
     ghost Value = { List Seen };
 
-    ghost use Rattle.clause_solver.specs.Places.{IsPlaced};
+    ghost use Rattle.clause_solver.specs.code.Places.{IsPlaced};
 
     ghost view = { λ t. reverse t.entries.items };
 

@@ -2,8 +2,8 @@
 ghost use Rattle.std.specs.Prelude.{◌≡◌, ◌<◌, ◌⊎◌, [], ℕ, suc, true, List, Some, IsTrue, length, slice_get, IfOk, OnOk};
 ghost use Rattle.refute_check.specs.Resolution.{has};
 ghost use Rattle.refute_check.specs.Machine.{Entry as OneEntry, level_of, level_now};
-ghost use Rattle.clause_solver.specs.Guarding.{IsHeld, GuardedAs, IsBelow};
-ghost use Rattle.clause_solver.specs.Renewing.{Renewed, Visited, HeldAs, IsWatchedBy, IsKeptIn, IsGuardedIn, IsListedIn, IsSound, pair_at};
+ghost use Rattle.clause_solver.specs.code.Guarding.{IsHeld, GuardedAs, IsBelow};
+ghost use Rattle.clause_solver.specs.code.Renewing.{Renewed, Visited, HeldAs, IsWatchedBy, IsKeptIn, IsGuardedIn, IsListedIn, IsSound, pair_at};
 
 use crate::candidates::Candidates;
 use crate::lists::Lists;

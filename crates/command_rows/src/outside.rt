@@ -1,8 +1,8 @@
 // The source and the sink of a line.
 ghost use Rattle.std.specs.Prelude.{None};
 
-use crate::bytes::bytes_of;
 use owi_base::{Failed, MemSink, MemSource, Source};
+use row_words::bytes_of;
 use std::alloc::{AllocError, Global};
 
 /// The source of a line.

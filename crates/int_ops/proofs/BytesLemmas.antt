@@ -7,7 +7,7 @@ use Rattle.std.proofs.Math.Nat.{pow-suc, pow-le-pow_right, mul-suc, mod-one}
 use Rattle.int_ops.specs.Bytes.{byte_of, joined, bytes_of}
 
 -- i bytes are 8 * i bits
-bits_of_bytes : (i : ℕ) → 2 ^ (8 * i) ≡ 256 ^ i
+pub bits_of_bytes : (i : ℕ) → 2 ^ (8 * i) ≡ 256 ^ i
 bits_of_bytes zero = refl
 bits_of_bytes (suc i) =
     ap (λ (n : ℕ). 2 ^ n) (mul-suc 8 i) ∙ pow-add 2 (8 * i) 8 ∙ ap (λ (n : ℕ). n * 256) (bits_of_bytes i) ∙ sym (pow-suc 256 i)

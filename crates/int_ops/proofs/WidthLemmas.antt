@@ -123,7 +123,7 @@ kept Rotl N x y some ok xb yb = let count = mod_below y N some in rotated-below 
 kept Rotr N x y some ok xb yb = rotated-below N x (N - y % N) (omega arith) xb
 kept operation N x y some ok xb yb = cc
 
-either : (P : ℕ → Type 0) (b : Bool) (m n : ℕ) → P m → P n → P (cond b m n)
+pub either : (P : ℕ → Type 0) (b : Bool) (m n : ℕ) → P m → P n → P (cond b m n)
 either P true m n p q = p
 either P false m n p q = q
 

@@ -1,6 +1,6 @@
 // What a line does to a list, and its answer.
-use crate::words::{Words, numbers, words_of};
 use cow_pages::Pages;
+use row_words::{Words, numbers, words_of};
 use std::alloc::{AllocError, Global};
 
 /// The line is carried out on the list, and answered.

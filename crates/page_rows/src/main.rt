@@ -9,7 +9,6 @@
 #![tactic(auto)]
 
 mod lines;
-mod words;
 
 use cow_pages::Pages;
 use lines::answer;

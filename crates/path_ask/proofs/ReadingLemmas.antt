@@ -5,7 +5,7 @@ use Rattle.wasm_rules.specs.Words.{bits_where}
 use Rattle.refute_check.specs.Clauses.{Assignment}
 use Rattle.clause_solver.specs.Answers.{assignment_of}
 use Rattle.bit_blast.specs.Formulas.{symbols_end, falling_wires, variables_from}
-use Rattle.bit_blast.specs.Meanings.{bit, number_of, input_from}
+use Rattle.bit_blast.specs.Meanings.{bit, value_of_wires, input_from}
 use mir.Val.{bool_byte}
 use Rattle.bit_blast.proofs.LengthLemmas.{length_map}
 use Rattle.bit_blast.proofs.CountLemmas.{number_down}
@@ -42,9 +42,9 @@ bit-fits xs n few e =
 -- ---- symbols
 
 input-last : (s : Assignment) (first : ℕ) (draws : List Bool) (wide : Bool)
-    → input_from s first (draws ++ wide ∷ []) ≡ input_from s first draws ++ number_of s (falling_wires (symbols_end first draws) (bits_where wide)) ∷ []
+    → input_from s first (draws ++ wide ∷ []) ≡ input_from s first draws ++ value_of_wires s (falling_wires (symbols_end first draws) (bits_where wide)) ∷ []
 input-last s first [] wide = refl
-input-last s first (w ∷ draws) wide = ap (λ (ns : List ℕ). number_of s (falling_wires first (bits_where w)) ∷ ns) (input-last s (first + bits_where w) draws wide)
+input-last s first (w ∷ draws) wide = ap (λ (ns : List ℕ). value_of_wires s (falling_wires first (bits_where w)) ∷ ns) (input-last s (first + bits_where w) draws wide)
 
 end-last : (first : ℕ) (draws : List Bool) (wide : Bool) → symbols_end first (draws ++ wide ∷ []) ≡ symbols_end first draws + bits_where wide
 end-last first [] wide = refl
@@ -70,7 +70,7 @@ values-from values at (suc count) h =
     ∙ sym (ap (λ (bs : List Bool). take (suc count) bs) (get-at values at (omega arith)))
 
 -- the number of a symbol
-pub symbol-is : (values : List Bool) (at count n : ℕ) → at + count ≤ length values → n ≡ spelled_down (take count (drop at values)) → n ≡ number_of (assignment_of values) (falling_wires (at + 1) count)
+pub symbol-is : (values : List Bool) (at count n : ℕ) → at + count ≤ length values → n ≡ spelled_down (take count (drop at values)) → n ≡ value_of_wires (assignment_of values) (falling_wires (at + 1) count)
 symbol-is values at count n h e =
     e ∙ spelled_is (take count (drop at values)) ∙ ap number_down (sym (values-from values at count h)) ∙ sym (symbol-number (assignment_of values) (at + 1) count)
 
@@ -87,7 +87,7 @@ one-symbol values draws i at at' n wide input input' h w place so_far room numbe
     let more : take (i + 1) draws ≡ take i draws ++ wide ∷ [] = take_more draws i false h ∙ ap (λ (b : Bool). take i draws ++ b ∷ []) (sym w) in (
       ap (λ (k : ℕ). k + 1) next ∙ turn at (bits_where wide) ∙ ap (λ (k : ℕ). k + bits_where wide) place ∙ sym (end-last 2 (take i draws) wide)
           ∙ sym (ap (λ (ds : List Bool). symbols_end 2 ds) more),
-      pushed ∙ ap₂ (λ (ns : List ℕ) (k : ℕ). ns ++ k ∷ []) so_far (symbol-is values at (bits_where wide) n room number ∙ ap (λ (k : ℕ). number_of (assignment_of values) (falling_wires k (bits_where wide))) place)
+      pushed ∙ ap₂ (λ (ns : List ℕ) (k : ℕ). ns ++ k ∷ []) so_far (symbol-is values at (bits_where wide) n room number ∙ ap (λ (k : ℕ). value_of_wires (assignment_of values) (falling_wires k (bits_where wide))) place)
           ∙ sym (input-last (assignment_of values) 2 (take i draws) wide) ∙ sym (ap (λ (ds : List Bool). input_from (assignment_of values) 2 ds) more),
     )
   where

@@ -11,7 +11,7 @@ use Rattle.refute_check.specs.declared.refutation.Refutation.{Refutation}
 use Rattle.refute_check.specs.declared.checker.AcceptBad.{AcceptBad}
 use Rattle.refute_check.specs.declared.checker.AcceptBad.TheVariants.{Bad, NoMemory}
 use Rattle.refute_check.proofs.Soundness.{accepted_refutes}
-use Rattle.clause_solver.specs.Answers.{IsFormula, values_of, assignment_of, IsAnswer, IsRight as IsRightAnswer}
+use Rattle.clause_solver.specs.Answers.{IsFormula, values_of, assignment_of, IsAnswer, IsCorrectAnswer}
 use Rattle.clause_solver.specs.declared.answer.Answer.{Answer}
 use Rattle.clause_solver.specs.declared.answer.Answer.TheVariants.{Model, Refuted}
 use Rattle.bit_blast.specs.Formulas.{Condition, symbols_end, variables_from, built, formula}
@@ -28,6 +28,7 @@ use Rattle.path_ask.specs.Reading.{spelled_down}
 use Rattle.path_ask.specs.Verdicts.{Meets, SomeMeets, IsLeastInput, IsLeastValue, IsPick}
 use Rattle.path_ask.specs.declared.verdicts.Pick.TheVariants.{Least as LeastPick}
 use Rattle.path_ask.proofs.ReadingLemmas.{spelled_is}
+use Rattle.clause_solver.proofs.Models.{length-values}
 
 -- what comes after the variables that are decided first
 abbrev later_order : List Condition → List Bool → Option Term → List ℕ
@@ -39,10 +40,6 @@ order_split : (conditions : List Condition) (draws : List Bool) (first : Option 
 order_split conditions draws first =
     append_assoc (least_variables conditions draws first) (variables_from 2 ((built conditions draws first).circuit.first - 2))
     (1 ∷ variables_from (built conditions draws first).circuit.first (length (built conditions draws first).circuit.gates - length (built conditions draws first).result.least))
-
-length-values : (t : Trail) (n : ℕ) → length (values_of t n) ≡ n
-length-values t zero = refl
-length-values t (suc n) = length-append (values_of t n) (assigned t (suc n) ∷ []) ∙ ap (λ (k : ℕ). k + 1) (length-values t n) ∙ omega arith
 
 get-names : (xs : List ℕ) (k d : ℕ) → k < length xs → Names xs (get_or xs k d)
 get-names [] k d h = absurd (omega arith)
@@ -79,10 +76,10 @@ module _ (conditions : List Condition) (draws : List Bool) (first : Option Term)
       omega arith
 
   -- a model's input meets the conditions
-  pub model_meets : (values : List Bool) → IsRightAnswer (formula conditions draws first) (Model values) → Computes conditions draws first (assignment_of values)
+  pub model_meets : (values : List Bool) → IsCorrectAnswer (formula conditions draws first) (Model values) → Computes conditions draws first (assignment_of values)
   model_meets values r = meets-computes (assignment_of values) conditions draws first proper least r.0
 
-  pub input_meets : (values : List Bool) → IsRightAnswer (formula conditions draws first) (Model values) → Meets conditions draws (input_of (assignment_of values) draws)
+  pub input_meets : (values : List Bool) → IsCorrectAnswer (formula conditions draws first) (Model values) → Meets conditions draws (input_of (assignment_of values) draws)
   input_meets values r = (input_fits (assignment_of values) 2 draws, (model_meets values r).answered)
 
   -- where no assignment meets the formula, no input meets the conditions
@@ -92,7 +89,7 @@ module _ (conditions : List Condition) (draws : List Bool) (first : Option Term)
       (computes-meets (computed conditions draws first some.0) conditions draws first proper least (computes conditions draws first proper least some.0 some.1.0 some.1.1))
 
   -- of another input that meets the conditions: the bits decided first are higher, or the same, and then it is the same or after
-  pub others : (values : List Bool) → IsRightAnswer (formula conditions draws first) (Model values) → (other : List ℕ) → Meets conditions draws other
+  pub others : (values : List Bool) → IsCorrectAnswer (formula conditions draws first) (Model values) → (other : List ℕ) → Meets conditions draws other
       → (number_down (map (assignment_of values) (least_variables conditions draws first)) < number_down (map (computed conditions draws first other) (least_variables conditions draws first)))
       ⊎ ((map (assignment_of values) (least_variables conditions draws first) ≡ map (computed conditions draws first other) (least_variables conditions draws first))
       × ((other ≡ input_of (assignment_of values) draws) ⊎ IsBefore (input_of (assignment_of values) draws) other))
@@ -119,7 +116,7 @@ module _ (conditions : List Condition) (draws : List Bool) (first : Option Term)
 
 -- ---- the least input
 
-pub least_input : (conditions : List Condition) (draws : List Bool) (proper : AreProper draws conditions) (values : List Bool) → IsRightAnswer (formula conditions draws None) (Model values)
+pub least_input : (conditions : List Condition) (draws : List Bool) (proper : AreProper draws conditions) (values : List Bool) → IsCorrectAnswer (formula conditions draws None) (Model values)
     → (input : List ℕ) → input ≡ input_of (assignment_of values) draws → IsLeastInput conditions draws input
 least_input conditions draws proper values r input e =
     subst (λ (ns : List ℕ). IsLeastInput conditions draws ns) (sym e) (record {
@@ -135,7 +132,7 @@ least_input conditions draws proper values r input e =
 -- ---- the least value
 
 module _ (conditions : List Condition) (draws : List Bool) (t : Term) (proper : AreProper draws conditions) (least : CanBeLeast draws (Some t)) (values : List Bool)
-    (r : IsRightAnswer (formula conditions draws (Some t)) (Model values)) where
+    (r : IsCorrectAnswer (formula conditions draws (Some t)) (Model values)) where
   pub value_is : number_down (map (assignment_of values) (least_variables conditions draws (Some t))) ≡ value_of (input_of (assignment_of values) draws) t
   value_is = least_value_is conditions draws t proper least (assignment_of values) (model_meets conditions draws (Some t) proper least values r)
 
@@ -182,20 +179,20 @@ module _ (conditions : List Condition) (draws : List Bool) (first : Option Term)
       subst (λ (vs : List Bool). symbols_end 2 draws ≤ length vs + 1) (sym f)
       (has_room conditions draws first proper least bound values (subst (λ (x : Answer). IsAnswer (formula conditions draws first) bound x) e (subst (λ (c : Cnf). IsAnswer c bound answer) is a)))
 
-  pub right : (answer : Answer) (values : List Bool) → IsRightAnswer cnf answer → answer ≡ Model values → IsRightAnswer (formula conditions draws first) (Model values)
-  right answer values r e = subst (λ (x : Answer). IsRightAnswer (formula conditions draws first) x) e (subst (λ (c : Cnf). IsRightAnswer c answer) is r)
+  pub right : (answer : Answer) (values : List Bool) → IsCorrectAnswer cnf answer → answer ≡ Model values → IsCorrectAnswer (formula conditions draws first) (Model values)
+  right answer values r e = subst (λ (x : Answer). IsCorrectAnswer (formula conditions draws first) x) e (subst (λ (c : Cnf). IsCorrectAnswer c answer) is r)
 
   pub none_do : IsUnsatisfiable cnf.clauses → SomeMeets conditions draws → ⊥
   none_do u some = none_meets conditions draws first proper least (subst (λ (c : Cnf). IsUnsatisfiable c.clauses) is u) some
 
-  pub not_refuted : (answer : Answer) (log : List Chain) → IsRightAnswer cnf answer → answer ≡ Refuted log → SomeMeets conditions draws → ⊥
-  not_refuted answer log r e some = none_do (accepted_refutes cnf.clauses log (subst (λ (x : Answer). IsRightAnswer cnf x) e r)) some
+  pub not_refuted : (answer : Answer) (log : List Chain) → IsCorrectAnswer cnf answer → answer ≡ Refuted log → SomeMeets conditions draws → ⊥
+  not_refuted answer log r e some = none_do (accepted_refutes cnf.clauses log (subst (λ (x : Answer). IsCorrectAnswer cnf x) e r)) some
 
   -- a log that the machine gave is not refused
-  pub not_bad : (answer : Answer) (log : List Chain) (result : Result Refutation AcceptBad) (bad : AcceptBad) (number : ℕ) → IsRightAnswer cnf answer → answer ≡ Refuted log
+  pub not_bad : (answer : Answer) (log : List Chain) (result : Result Refutation AcceptBad) (bad : AcceptBad) (number : ℕ) → IsCorrectAnswer cnf answer → answer ≡ Refuted log
       → (IsAccepted cnf.clauses log → IsOkUnless result NoMemory) → result ≡ Err bad → bad ≡ Bad number → ⊥
   not_bad answer log result bad number r e accepts refused kind =
-      apart number (sym kind ∙ subst (λ (x : Result Refutation AcceptBad). IsOkUnless x NoMemory) refused (accepts (subst (λ (x : Answer). IsRightAnswer cnf x) e r)))
+      apart number (sym kind ∙ subst (λ (x : Result Refutation AcceptBad). IsOkUnless x NoMemory) refused (accepts (subst (λ (x : Answer). IsCorrectAnswer cnf x) e r)))
     where
       apart : (number : ℕ) → Bad number ≡ NoMemory → ⊥
       apart number e = cc
@@ -223,14 +220,14 @@ enough_decided conditions draws t proper least cnf is order g =
     omega arith
 
 pub least_is : (conditions : List Condition) (draws : List Bool) (proper : AreProper draws conditions) (cnf : Cnf) → cnf ≡ formula conditions draws None
-    → (answer : Answer) (values slice : List Bool) (input : List ℕ) → IsRightAnswer cnf answer → answer ≡ Model values → slice ≡ values → input ≡ input_of (assignment_of slice) draws
+    → (answer : Answer) (values slice : List Bool) (input : List ℕ) → IsCorrectAnswer cnf answer → answer ≡ Model values → slice ≡ values → input ≡ input_of (assignment_of slice) draws
     → IsLeastInput conditions draws input
 least_is conditions draws proper cnf is answer values slice input r e f g =
     least_input conditions draws proper values (right conditions draws None proper tt cnf is answer values r e) input (g ∙ ap (λ (vs : List Bool). input_of (assignment_of vs) draws) f)
 
 module _ (conditions : List Condition) (draws : List Bool) (t : Term) (proper : AreProper draws conditions) (least : CanBeLeast draws (Some t)) (cnf : Cnf)
     (is : cnf ≡ formula conditions draws (Some t)) (answer : Answer) (values slice slice' : List Bool) (order : List ℕ) (value : ℕ) (input : List ℕ)
-    (r : IsRightAnswer cnf answer) (e : answer ≡ Model values) (f : slice ≡ values) (f' : slice' ≡ values) (g : order ≡ cnf.order)
+    (r : IsCorrectAnswer cnf answer) (e : answer ≡ Model values) (f : slice ≡ values) (f' : slice' ≡ values) (g : order ≡ cnf.order)
     (read : value ≡ spelled_down (map (assignment_of slice) (take 32 order))) (spelled : input ≡ input_of (assignment_of slice') draws) where
   input_is : input ≡ input_of (assignment_of values) draws
   input_is = spelled ∙ ap (λ (vs : List Bool). input_of (assignment_of vs) draws) f'

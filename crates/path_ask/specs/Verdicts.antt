@@ -43,10 +43,10 @@ IsVerdict conditions draws bound (Dropped refutation) =
 IsVerdict conditions draws bound Undecided = IsAnswer (formula conditions draws None) bound Spent
 
 -- the least input, or that no input meets the conditions
-abbrev pub IsRight : List Condition → List Bool → Verdict → Type 0
-IsRight conditions draws (Least input) = IsLeastInput conditions draws input
-IsRight conditions draws (Dropped refutation) = SomeMeets conditions draws → ⊥
-IsRight conditions draws Undecided = Unit {0}
+abbrev pub IsCorrectVerdict : List Condition → List Bool → Verdict → Type 0
+IsCorrectVerdict conditions draws (Least input) = IsLeastInput conditions draws input
+IsCorrectVerdict conditions draws (Dropped refutation) = SomeMeets conditions draws → ⊥
+IsCorrectVerdict conditions draws Undecided = Unit {0}
 
 -- ---- picks
 

@@ -3,8 +3,8 @@ ghost use Rattle.std.specs.Prelude.{◌≤◌, All, IfOk, Some, None};
 ghost use Rattle.bv_terms.specs.declared.words.Word.TheVariants.{Term as Numbered};
 ghost use Rattle.bv_terms.specs.Graphs.{Holds};
 ghost use Rattle.bit_blast.specs.Meanings.{AreProper, CanBeLeast};
-ghost use Rattle.bit_blast.specs.Walks.{term_at, conditions_of};
-ghost use Rattle.path_ask.specs.Verdicts.{IsVerdict, IsRight, IsPick, IsLeast, SomeMeets};
+ghost use Rattle.bit_blast.specs.GraphConditions.{term_at, conditions_of};
+ghost use Rattle.path_ask.specs.Verdicts.{IsVerdict, IsCorrectVerdict, IsPick, IsLeast, SomeMeets};
 
 use crate::inputs::{input, number_at};
 use crate::verdicts::{Pick, Verdict};
@@ -33,7 +33,7 @@ pub fn other_side(
     requires proper { AreProper draws.now (conditions_of g.now conds.now) }
     requires conflicts { 1 ≤ conflicts }
     ensures exact { IfOk result (λ verdict. IsVerdict (conditions_of g.now conds.now) draws.now conflicts verdict) }
-    ensures right { IfOk result (λ verdict. IsRight (conditions_of g.now conds.now) draws.now verdict) }
+    ensures right { IfOk result (λ verdict. IsCorrectVerdict (conditions_of g.now conds.now) draws.now verdict) }
 {
     let cnf = clauses(alloc, g, conds, draws, None)?;
     let answer = solve(alloc, &cnf, conflicts)?;

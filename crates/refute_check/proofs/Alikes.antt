@@ -6,7 +6,7 @@ use Rattle.std.proofs.lemmas.Bool.{true≢false}
 use Rattle.refute_check.specs.Clauses.{Clause, positive, negative}
 use Rattle.refute_check.specs.Resolution.{has, joined, resolvent}
 use Rattle.refute_check.specs.Logs.{after_step, after_steps, result_of}
-use Rattle.refute_check.specs.Alike.{AreAlike, BothAlike, AllAlike}
+use Rattle.refute_check.specs.code.Alike.{AreAlike, BothAlike, AllAlike}
 use Rattle.refute_check.specs.declared.logs.Chain.{Chain}
 use Rattle.refute_check.proofs.Membership.{has-joined, same_literal}
 

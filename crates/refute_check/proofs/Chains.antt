@@ -5,7 +5,7 @@ use Rattle.std.specs.Option.{option_and_then}
 use Rattle.refute_check.specs.Clauses.{Clause, positive, negative}
 use Rattle.refute_check.specs.Resolution.{has, joined, resolvent}
 use Rattle.refute_check.specs.Logs.{after_step, after_steps, result_of}
-use Rattle.refute_check.specs.Alike.{AreAlike, BothAlike}
+use Rattle.refute_check.specs.code.Alike.{AreAlike, BothAlike}
 use Rattle.refute_check.specs.declared.logs.Chain.{Chain}
 use Rattle.refute_check.proofs.Membership.{other_literal}
 use Rattle.refute_check.proofs.Alikes.{resolvent-alike, some_alike}

@@ -6,7 +6,7 @@ use Rattle.std.proofs.lemmas.List.{take_more}
 use Rattle.refute_check.specs.Clauses.{Clause}
 use Rattle.refute_check.specs.Resolution.{has}
 use Rattle.refute_check.specs.Logs.{result_of, Leads, IsAccepted, FailsAt}
-use Rattle.refute_check.specs.Alike.{AreAlike, BothAlike, AllAlike}
+use Rattle.refute_check.specs.code.Alike.{AreAlike, BothAlike, AllAlike}
 use Rattle.refute_check.specs.declared.logs.Chain.{Chain}
 use Rattle.refute_check.proofs.Alikes.{result-alike, all_more, empty_alike}
 use Rattle.refute_check.proofs.Exclusion.{leads_more}

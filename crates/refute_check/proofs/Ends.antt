@@ -2,7 +2,7 @@
 use Rattle.std.proofs.Common.{◌⊎◌, inl, inr, ◌≡◌, ℕ, zero, suc, ◌+◌, ◌-◌, ◌*◌, ◌<◌, ◌≤◌, List, [], ◌∷◌, ◌++◌, length, refl, sym, ap, ◌∙◌, subst, arith}
 use Rattle.std.specs.Prelude.{Option, Some, None, Bool, true, false, ◌==◌, if◌then◌else◌, slice_get, nat_lt}
 use Rattle.std.proofs.lemmas.Bool.{eq-eqb, ltb-true}
-use Rattle.refute_check.specs.Clauses.{Clause, Holds, variable_of, positive, negative}
+use Rattle.refute_check.specs.Clauses.{Clause, HasLiteral, variable_of, positive, negative}
 use Rattle.refute_check.specs.Resolution.{has, joined, resolvent}
 use Rattle.refute_check.specs.Logs.{after_step}
 use Rattle.refute_check.specs.Machine.{Entry, Trail, entry_of, status, Falsified, Forces, falsified, forced, unset, Learnt, analysed, is_learnt, is_empty, cut, has_decision, State, Turn, On, Model, Refuted, Spent, learn, chain_of, conflict, puts, decide, force, turn_by, turn, then_turn, turns, start, level_now, highest_but}
@@ -12,7 +12,7 @@ use Rattle.refute_check.proofs.Soundness.{resolvent-keeps, then_some}
 use Rattle.refute_check.proofs.Trails.{Forcing, status-forces, forced-is, unset-is, falsified-is, analysed-keeps}
 
 abbrev pub Within : List ℕ → Clause → Type 0
-Within order c = (l : ℕ) → Holds l c → Names order (variable_of l)
+Within order c = (l : ℕ) → HasLiteral l c → Names order (variable_of l)
 
 within-joined : (order : List ℕ) (p n : ℕ) (c d : Clause) → Within order c → Within order d → Within order (joined p n c d)
 within-joined order p n c d h k m i = go (joined_was p n c d m (holds-has _ m i))

@@ -1,6 +1,6 @@
 -- What the machine keeps of its trail.
 use Rattle.std.specs.Prelude.{◌≡◌, ℕ, List, [], ◌∷◌, ◌++◌, Option, Some, None, slice_get, ◌⊎◌}
-use Rattle.refute_check.specs.Clauses.{Clause, Holds, variable_of, negative}
+use Rattle.refute_check.specs.Clauses.{Clause, HasLiteral, variable_of, negative}
 use Rattle.refute_check.specs.Machine.{Entry, Trail, entry_of, value_of, False}
 
 -- each of these variables is on the trail
@@ -15,8 +15,8 @@ EntryFits clauses order None entry trail =
     (entry.literal ≡ negative (variable_of entry.literal))
     × ((before : List ℕ) × (after : List ℕ) × (order ≡ before ++ variable_of entry.literal ∷ after) × AllSet trail before)
 EntryFits clauses order (Some reason) entry trail =
-    (clause : Clause) × (slice_get clauses reason ≡ Some clause) × Holds entry.literal clause
-    × ((literal : ℕ) → Holds literal clause → (literal ≡ entry.literal) ⊎ (value_of trail literal ≡ False))
+    (clause : Clause) × (slice_get clauses reason ≡ Some clause) × HasLiteral entry.literal clause
+    × ((literal : ℕ) → HasLiteral literal clause → (literal ≡ entry.literal) ⊎ (value_of trail literal ≡ False))
 
 -- each entry was right when it came
 abbrev pub Fits : List Clause → List ℕ → Trail → Type 0

@@ -3,7 +3,7 @@ use Rattle.std.proofs.Common.{◌⊎◌, inl, inr, ◌≡◌, ℕ, ◌%◌, List
 use Rattle.std.specs.Prelude.{Option, Some, None, Bool, true, false, ◌==◌, ◌||◌, if◌then◌else◌}
 use Rattle.std.specs.Option.{option_and_then}
 use Rattle.std.proofs.lemmas.Bool.{eqb-true, eq-eqb, true≢false}
-use Rattle.refute_check.specs.Clauses.{Clause, Holds, variable_of, positive, negative}
+use Rattle.refute_check.specs.Clauses.{Clause, HasLiteral, variable_of, positive, negative}
 use Rattle.refute_check.specs.Resolution.{has, joined, resolvent}
 use Rattle.refute_check.specs.Logs.{after_step, after_steps}
 use Rattle.refute_check.specs.Machine.{Entry, Trail, entry_of, True, False, Unset, value_at, value_of, Learnt, stays, has_variable, resolved_with, by_reason, analysed, is_empty, decided_or, has_decision}
@@ -38,25 +38,25 @@ analysed-chain cs enough (e ∷ t) c = go (λ r. analysed-chain cs enough t r) (
 
 -- all literals of the clause are false
 abbrev pub AllFalse : Trail → Clause → Type 0
-AllFalse t c = (l : ℕ) → Holds l c → value_of t l ≡ False
+AllFalse t c = (l : ℕ) → HasLiteral l c → value_of t l ≡ False
 
 none-false : (c : Clause) → AllFalse [] c → c ≡ []
 none-false [] h = refl
 none-false (l ∷ c) h = let x : Unset ≡ False = h l (inl refl) in cc
 
-has_variable-is : (v : ℕ) (c : Clause) → has_variable v c ≡ true → (l : ℕ) × Holds l c × (variable_of l ≡ v)
+has_variable-is : (v : ℕ) (c : Clause) → has_variable v c ≡ true → (l : ℕ) × HasLiteral l c × (variable_of l ≡ v)
 has_variable-is v [] e = cc
 has_variable-is v (l ∷ c) e = go (λ f. has_variable-is v c f) (variable_of l == v) refl e
   where
-    go : (has_variable v c ≡ true → (m : ℕ) × Holds m c × (variable_of m ≡ v)) → (b : Bool) → (variable_of l == v) ≡ b → (b || has_variable v c) ≡ true → (m : ℕ) × Holds m (l ∷ c) × (variable_of m ≡ v)
+    go : (has_variable v c ≡ true → (m : ℕ) × HasLiteral m c × (variable_of m ≡ v)) → (b : Bool) → (variable_of l == v) ≡ b → (b || has_variable v c) ≡ true → (m : ℕ) × HasLiteral m (l ∷ c) × (variable_of m ≡ v)
     go rec true f e = (l, inl refl, eqb-true (variable_of l) v f)
     go rec false f e = let r = rec e in (r.0, inr r.1, r.2)
 
-has_variable-not : (v : ℕ) (c : Clause) → has_variable v c ≡ false → (l : ℕ) → Holds l c → variable_of l ≡ v → ⊥
+has_variable-not : (v : ℕ) (c : Clause) → has_variable v c ≡ false → (l : ℕ) → HasLiteral l c → variable_of l ≡ v → ⊥
 has_variable-not v [] e l h f = h
 has_variable-not v (k ∷ c) e l h f = go (λ g i. has_variable-not v c g l i f) (variable_of k == v) refl e h
   where
-    go : (has_variable v c ≡ false → Holds l c → ⊥) → (b : Bool) → (variable_of k == v) ≡ b → (b || has_variable v c) ≡ false → (l ≡ k) ⊎ Holds l c → ⊥
+    go : (has_variable v c ≡ false → HasLiteral l c → ⊥) → (b : Bool) → (variable_of k == v) ≡ b → (b || has_variable v c) ≡ false → (l ≡ k) ⊎ HasLiteral l c → ⊥
     go rec true g e h = true≢false e
     go rec false g e (inl i) = true≢false (sym (eq-eqb (variable_of k) v (ap (λ l. variable_of l) (sym i) ∙ f)) ∙ g)
     go rec false g e (inr i) = rec e i
@@ -85,7 +85,7 @@ either_way l = go (l % 2 == 0) refl
 
 -- a literal that was false before is not of the latest variable
 resolved-false : (e : Entry) (t : Trail) (c d : Clause) (n : ℕ) → AllFalse (e ∷ t) c → ((m : ℕ) → variable_of m ≡ variable_of e.literal → (m ≡ e.literal) ⊎ (m ≡ n)) →
-    ((m : ℕ) → Holds m d → (m ≡ e.literal) ⊎ (value_of t m ≡ False)) → AllFalse t (joined n e.literal c d)
+    ((m : ℕ) → HasLiteral m d → (m ≡ e.literal) ⊎ (value_of t m ≡ False)) → AllFalse t (joined n e.literal c d)
 resolved-false e t c d n false_c ways others q h = go (joined_was n e.literal c d q (holds-has _ q h))
   where
     untrue : value_of (e ∷ t) q ≡ False → q ≡ e.literal → ⊥
@@ -107,14 +107,14 @@ resolved-false e t c d n false_c ways others q h = go (joined_was n e.literal c 
     go (inr i) = at_d (others q (has-holds d q i.0)) i.1
 
 -- a clause that is false and holds the latest variable resolves with its reason to a clause that was false before
-resolves : (e : Entry) (t : Trail) (c d : Clause) → AllFalse (e ∷ t) c → has_variable (variable_of e.literal) c ≡ true → Holds e.literal d → ((m : ℕ) → Holds m d → (m ≡ e.literal) ⊎ (value_of t m ≡ False)) →
+resolves : (e : Entry) (t : Trail) (c d : Clause) → AllFalse (e ∷ t) c → has_variable (variable_of e.literal) c ≡ true → HasLiteral e.literal d → ((m : ℕ) → HasLiteral m d → (m ≡ e.literal) ⊎ (value_of t m ≡ False)) →
     (r : Clause) × (resolvent c d (variable_of e.literal) ≡ Some r) × AllFalse t r
 resolves e t c d false_c hv hd others = go (either_way e.literal)
   where
     v : ℕ
     v = variable_of e.literal
 
-    x : (m : ℕ) × Holds m c × (variable_of m ≡ v)
+    x : (m : ℕ) × HasLiteral m c × (variable_of m ≡ v)
     x = has_variable-is v c hv
 
     true_out : has c e.literal ≡ false

@@ -3,7 +3,7 @@ use Rattle.std.proofs.Common.{◌⊎◌, inl, inr, ◌≡◌, ℕ, zero, suc, �
 use Rattle.std.specs.Prelude.{Option, Some, None, Bool, true, false, ◌==◌, if◌then◌else◌, slice_get, nat_lt}
 use Rattle.std.proofs.lemmas.Bool.{eqb-true, eq-eqb, true≢false}
 use Rattle.std.proofs.lemmas.List.{append-nil}
-use Rattle.refute_check.specs.Clauses.{Clause, Holds, Assignment, Meets, MeetsAll, variable_of, sign_of, positive, negative}
+use Rattle.refute_check.specs.Clauses.{Clause, HasLiteral, Assignment, Satisfies, SatisfiesAll, variable_of, sign_of, positive, negative}
 use Rattle.refute_check.specs.Machine.{Entry, Trail, entry_of, False, value_of, status, Falsified, Forces, falsified, forced, unset, Learnt, analysed, is_learnt, cut, has_decision, State, Turn, On, Model, Refuted, Spent, conflict, decide, force, turn_by, turn, then_turn, turns, start, level_now, highest_but, value_in, assigned}
 use Rattle.refute_check.specs.Orders.{Names, NamesAll, AreSame, IsGreater}
 use Rattle.refute_check.proofs.Fits.{AllSet, EntryFits, Fits}
@@ -76,7 +76,7 @@ entry-variable (d ∷ t) v e f = go (λ f. entry-variable t v e f) (variable_of 
     go rec false g f = rec f
 
 -- an assignment that meets the clauses has the values of the trail, or is greater
-split : (cs : List Clause) (order : List ℕ) (b : Assignment) → MeetsAll b cs → (t : Trail) → Fits cs order t → Agrees b t ⊎ GreaterOn order t b
+split : (cs : List Clause) (order : List ℕ) (b : Assignment) → SatisfiesAll b cs → (t : Trail) → Fits cs order t → Agrees b t ⊎ GreaterOn order t b
 split cs order b all [] h = inl tt
 split cs order b all (e ∷ t) h = go (split cs order b all t h.2)
   where
@@ -98,7 +98,7 @@ split cs order b all (e ∷ t) h = go (split cs order b all t h.2)
     by : Agrees b t → (o : Option ℕ) → EntryFits cs order o e t → Agrees b (e ∷ t) ⊎ GreaterOn order (e ∷ t) b
     by a None f = decided a (ap (λ l. sign_of l) f.0 ∙ sign-negative v) f.1.0 f.1.1 f.1.2 f.1.3 (b v) refl
     by a (Some k) f =
-        let m : Meets b f.0 = get-meets b cs k f.0 all f.1 in
+        let m : Satisfies b f.0 = get-meets b cs k f.0 all f.1 in
         inl (from a m.0 m.2 (f.3 m.0 m.1), a)
 
     go : Agrees b t ⊎ GreaterOn order t b → Agrees b (e ∷ t) ⊎ GreaterOn order (e ∷ t) b
@@ -109,7 +109,7 @@ same-on : (t : Trail) (b : Assignment) (vs : List ℕ) → AgreesOn t b vs → A
 same-on t b [] h = tt
 same-on t b (v ∷ vs) h = (ap (λ o. value_in o) h.0.1 ∙ sym h.0.2, same-on t b vs h.1)
 
-least : (cs : List Clause) (order : List ℕ) (t : Trail) → Fits cs order t → AllSet t order → (b : Assignment) → MeetsAll b cs → AreSame (assigned t) b order ⊎ IsGreater order (assigned t) b
+least : (cs : List Clause) (order : List ℕ) (t : Trail) → Fits cs order t → AllSet t order → (b : Assignment) → SatisfiesAll b cs → AreSame (assigned t) b order ⊎ IsGreater order (assigned t) b
 least cs order t h set b all = go (split cs order b all t h)
   where
     go : Agrees b t ⊎ GreaterOn order t b → AreSame (assigned t) b order ⊎ IsGreater order (assigned t) b
@@ -121,13 +121,13 @@ set-in t [] s v i = absurd i
 set-in t (u ∷ vs) s v (inl e) = subst (λ u. (e : Entry) × (entry_of t u ≡ Some e)) (sym e) s.0
 set-in t (u ∷ vs) s v (inr i) = set-in t vs s.1 v i
 
-all-met : (a : Assignment) (cs : List Clause) → ((i : ℕ) (c : Clause) → slice_get cs i ≡ Some c → Meets a c) → MeetsAll a cs
+all-met : (a : Assignment) (cs : List Clause) → ((i : ℕ) (c : Clause) → slice_get cs i ≡ Some c → Satisfies a c) → SatisfiesAll a cs
 all-met a [] f = tt
 all-met a (c ∷ cs) f = (f 0 c refl, all-met a cs (λ i d e. f (suc i) d e))
 
-get-named : (order : List ℕ) (cs : List Clause) → NamesAll order cs → (i : ℕ) (c : Clause) → slice_get cs i ≡ Some c → (l : ℕ) → Holds l c → Names order (variable_of l)
+get-named : (order : List ℕ) (cs : List Clause) → NamesAll order cs → (i : ℕ) (c : Clause) → slice_get cs i ≡ Some c → (l : ℕ) → HasLiteral l c → Names order (variable_of l)
 get-named order [] h i c e = cc
-get-named order (d ∷ cs) h zero c e = let f : d ≡ c = cc in subst (λ c. (l : ℕ) → Holds l c → Names order (variable_of l)) f h.0
+get-named order (d ∷ cs) h zero c e = let f : d ≡ c = cc in subst (λ c. (l : ℕ) → HasLiteral l c → Names order (variable_of l)) f h.0
 get-named order (d ∷ cs) h (suc i) c e = get-named order cs h.1 i c e
 
 get-first : (cs ds : List Clause) (i : ℕ) (c : Clause) → slice_get cs i ≡ Some c → slice_get (cs ++ ds) i ≡ Some c
@@ -140,13 +140,13 @@ module _ (first : List Clause) (order : List ℕ) (bound : ℕ) where
   record Sound (s : State) : Type 0 where
     more : List Clause
     clauses : s.clauses ≡ first ++ more
-    implied : (b : Assignment) → MeetsAll b first → MeetsAll b s.clauses
+    implied : (b : Assignment) → SatisfiesAll b first → SatisfiesAll b s.clauses
     fits : Fits s.clauses order s.trail
 
   -- what the machine's answer is to be
   abbrev Right : Turn → Type 0
   Right (On s) = Sound s
-  Right (Model t) = MeetsAll (assigned t) first × ((b : Assignment) → MeetsAll b first → AreSame (assigned t) b order ⊎ IsGreater order (assigned t) b) × AllSet t order
+  Right (Model t) = SatisfiesAll (assigned t) first × ((b : Assignment) → SatisfiesAll b first → AreSame (assigned t) b order ⊎ IsGreater order (assigned t) b) × AllSet t order
   Right (Refuted log) = Unit {0}
   Right Spent = Unit {0}
 
@@ -208,11 +208,11 @@ module _ (first : List Clause) (order : List ℕ) (bound : ℕ) where
   model : NamesAll order first → (n : ℕ) (t : Trail) → turns order bound n (start first) ≡ Model t → Right (Model t)
   model named n t e = subst (λ x. Right x) e (turns-right named n (start first) (record { more = []; clauses = sym (append-nil first); implied = λ b all. all; fits = tt }))
 
-  pub model_meets : NamesAll order first → (n : ℕ) (t : Trail) → turns order bound n (start first) ≡ Model t → MeetsAll (assigned t) first
+  pub model_meets : NamesAll order first → (n : ℕ) (t : Trail) → turns order bound n (start first) ≡ Model t → SatisfiesAll (assigned t) first
   model_meets named n t e = (model named n t e).0
 
   -- every assignment that meets the clauses is the model or greater
-  pub model_least : NamesAll order first → (n : ℕ) (t : Trail) → turns order bound n (start first) ≡ Model t → (b : Assignment) → MeetsAll b first → AreSame (assigned t) b order ⊎ IsGreater order (assigned t) b
+  pub model_least : NamesAll order first → (n : ℕ) (t : Trail) → turns order bound n (start first) ≡ Model t → (b : Assignment) → SatisfiesAll b first → AreSame (assigned t) b order ⊎ IsGreater order (assigned t) b
   model_least named n t e = (model named n t e).1
 
   pub model_sets : NamesAll order first → (n : ℕ) (t : Trail) → turns order bound n (start first) ≡ Model t → AllSet t order

@@ -1,4 +1,5 @@
 pub mod Membership
+pub mod EachOnce
 pub mod Soundness
 pub mod Alikes
 pub mod Exclusion

@@ -3,7 +3,7 @@ use Rattle.std.proofs.Common.{◌⊎◌, inl, inr, ◌≡◌, ℕ, [], ◌∷◌
 use Rattle.std.specs.Prelude.{Bool, true, false, not, ◌==◌, ◌&&◌, ◌||◌, if◌then◌else◌}
 use Rattle.std.proofs.lemmas.Bool.{eqb-true, eq-eqb, true≢false}
 use Rattle.std.proofs.lemmas.List.Folds.{list_any-append}
-use Rattle.refute_check.specs.Clauses.{Clause, Holds, positive, negative, variable_of, sign_of}
+use Rattle.refute_check.specs.Clauses.{Clause, HasLiteral, positive, negative, variable_of, sign_of}
 use Rattle.refute_check.specs.Resolution.{has, without, each_once, joined}
 
 pub same_literal : (l : ℕ) → (l == l) ≡ true
@@ -26,15 +26,15 @@ swapped k l = go (k == l) refl
     go true e = e ∙ sym (eq-eqb l k (sym (eqb-true k l e)))
     go false e = e ∙ sym (other_literal l k (λ f. apart k l e (sym f)))
 
-pub has-holds : (c : Clause) (l : ℕ) → has c l ≡ true → Holds l c
+pub has-holds : (c : Clause) (l : ℕ) → has c l ≡ true → HasLiteral l c
 has-holds [] l e = cc
 has-holds (k ∷ c) l e = go (λ f. has-holds c l f) (k == l) refl e
   where
-    go : (has c l ≡ true → Holds l c) → (b : Bool) → (k == l) ≡ b → (b || has c l) ≡ true → (l ≡ k) ⊎ Holds l c
+    go : (has c l ≡ true → HasLiteral l c) → (b : Bool) → (k == l) ≡ b → (b || has c l) ≡ true → (l ≡ k) ⊎ HasLiteral l c
     go rec true f e = inl (sym (eqb-true k l f))
     go rec false f e = inr (rec e)
 
-pub holds-has : (c : Clause) (l : ℕ) → Holds l c → has c l ≡ true
+pub holds-has : (c : Clause) (l : ℕ) → HasLiteral l c → has c l ≡ true
 holds-has [] l h = absurd h
 holds-has (k ∷ c) l (inl e) = ap (λ b. b || has c l) (eq-eqb k l (sym e))
 holds-has (k ∷ c) l (inr h) = go (holds-has c l h) (k == l)

@@ -11,7 +11,7 @@ use Rattle.std.proofs.lemmas.List.{take_more}
 use Rattle.std.proofs.lemmas.List.Folds.{list_any-append}
 use Rattle.refute_check.specs.Clauses.{Clause}
 use Rattle.refute_check.specs.Resolution.{has, joined}
-use Rattle.refute_check.specs.Alike.{AreAlike}
+use Rattle.refute_check.specs.code.Alike.{AreAlike}
 use Rattle.refute_check.proofs.Membership.{other_literal, swapped, has-joined, or_true}
 
 pub at-is : (k q : ℕ) → is_at (nat_cmp k) q ≡ (k == q)

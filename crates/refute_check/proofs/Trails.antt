@@ -2,7 +2,7 @@
 use Rattle.std.proofs.Common.{◌⊎◌, inl, inr, ◌≡◌, ℕ, zero, suc, ◌+◌, List, [], ◌∷◌, ◌++◌, refl, sym, ap, ◌∙◌, subst, arith}
 use Rattle.std.specs.Prelude.{Option, Some, None, Bool, true, false, ◌==◌, if◌then◌else◌, slice_get, nat_lt}
 use Rattle.std.proofs.lemmas.Bool.{eqb-true}
-use Rattle.refute_check.specs.Clauses.{Clause, Holds, Assignment, Meets, MeetsAll, variable_of, sign_of, negative}
+use Rattle.refute_check.specs.Clauses.{Clause, HasLiteral, Assignment, Satisfies, SatisfiesAll, variable_of, sign_of, negative}
 use Rattle.refute_check.specs.Logs.{after_step}
 use Rattle.refute_check.specs.Machine.{Entry, Trail, entry_of, Value, True, False, Unset, value_at, value_of, Status, Falsified, Forces, Idle, status_with, status, falsified_with, falsified, forced_with, forced, unset_with, unset, stays, has_variable, resolved_with, by_reason, analysed, cut, value_in, assigned}
 use Rattle.refute_check.proofs.Fits.{AllSet, EntryFits, Fits}
@@ -25,11 +25,11 @@ false-entry l (Some e) h = go (e.literal == l) refl h
     go true g h = cc
     go false g h = (e, refl, g)
 
-pub status-false : (t : Trail) (c : Clause) → status t c ≡ Falsified → (l : ℕ) → Holds l c → value_of t l ≡ False
+pub status-false : (t : Trail) (c : Clause) → status t c ≡ Falsified → (l : ℕ) → HasLiteral l c → value_of t l ≡ False
 status-false t [] e l h = absurd h
 status-false t (m ∷ c) e l h = go (λ f i. status-false t c f l i) (value_of t m) (status t c) refl refl e h
   where
-    go : (status t c ≡ Falsified → Holds l c → value_of t l ≡ False) → (v : Value) (s : Status) → value_of t m ≡ v → status t c ≡ s → status_with v m s ≡ Falsified → (l ≡ m) ⊎ Holds l c → value_of t l ≡ False
+    go : (status t c ≡ Falsified → HasLiteral l c → value_of t l ≡ False) → (v : Value) (s : Status) → value_of t m ≡ v → status t c ≡ s → status_with v m s ≡ Falsified → (l ≡ m) ⊎ HasLiteral l c → value_of t l ≡ False
     go rec True s f g e h = cc
     go rec False s f g e (inl i) = subst (λ m. value_of t m ≡ False) (sym i) f
     go rec False s f g e (inr i) = rec (g ∙ e) i
@@ -38,9 +38,9 @@ status-false t (m ∷ c) e l h = go (λ f i. status-false t c f l i) (value_of t
     go rec Unset Idle f g e h = cc
 
 pub record Forcing (t : Trail) (c : Clause) (l : ℕ) : Type 0 where
-  pub holds : Holds l c
+  pub holds : HasLiteral l c
   pub free : entry_of t (variable_of l) ≡ None
-  pub others : (m : ℕ) → Holds m c → (m ≡ l) ⊎ (value_of t m ≡ False)
+  pub others : (m : ℕ) → HasLiteral m c → (m ≡ l) ⊎ (value_of t m ≡ False)
 
 pub status-forces : (t : Trail) (c : Clause) (l : ℕ) → status t c ≡ Forces l → Forcing t c l
 status-forces t [] l e = cc
@@ -52,14 +52,14 @@ status-forces t (m ∷ c) l e = go (λ f. status-forces t c l f) (value_of t m) 
         let r : Forcing t c l = rec (g ∙ e) in
         record { holds = inr r.holds; free = r.free; others = λ k h. two r k h }
       where
-        two : Forcing t c l → (k : ℕ) → (k ≡ m) ⊎ Holds k c → (k ≡ l) ⊎ (value_of t k ≡ False)
+        two : Forcing t c l → (k : ℕ) → (k ≡ m) ⊎ HasLiteral k c → (k ≡ l) ⊎ (value_of t k ≡ False)
         two r k (inl i) = inr (subst (λ m. value_of t m ≡ False) (sym i) f)
         two r k (inr i) = r.others k i
     go rec Unset Falsified f g e =
         let i : m ≡ l = cc in
         record { holds = inl (sym i); free = subst (λ m. entry_of t (variable_of m) ≡ None) i (unset-none m (entry_of t (variable_of m)) f); others = λ k h. two i k h }
       where
-        two : m ≡ l → (k : ℕ) → (k ≡ m) ⊎ Holds k c → (k ≡ l) ⊎ (value_of t k ≡ False)
+        two : m ≡ l → (k : ℕ) → (k ≡ m) ⊎ HasLiteral k c → (k ≡ l) ⊎ (value_of t k ≡ False)
         two i k (inl j) = inl (j ∙ i)
         two i k (inr j) = inr (status-false t c g k j)
     go rec Unset (Forces k) f g e = cc
@@ -147,8 +147,8 @@ analysed-keeps Q cs keeps enough (e ∷ t) c m = go (λ r n. analysed-keeps Q cs
     go rec false false = rec c m
 
 -- what an analysis learns is met wherever the clauses are
-pub analysed-meets : (a : Assignment) (cs : List Clause) → MeetsAll a cs → (enough : Clause → Bool) (t : Trail) (c : Clause) → Meets a c → Meets a (analysed cs enough t c).clause
-analysed-meets a cs all enough t c m = analysed-keeps (Meets a) cs (λ s d r h e. step-meets a cs all s d r h e) enough t c m
+pub analysed-meets : (a : Assignment) (cs : List Clause) → SatisfiesAll a cs → (enough : Clause → Bool) (t : Trail) (c : Clause) → Satisfies a c → Satisfies a (analysed cs enough t c).clause
+analysed-meets a cs all enough t c m = analysed-keeps (Satisfies a) cs (λ s d r h e. step-meets a cs all s d r h e) enough t c m
 
 falsified-none : (t : Trail) (k : ℕ) (cs : List Clause) → falsified t k cs ≡ None → (i : ℕ) (c : Clause) → slice_get cs i ≡ Some c → status t c ≡ Falsified → ⊥
 falsified-none t k [] e i c f g = cc
@@ -167,18 +167,18 @@ pub not-falsified : (t : Trail) (cs : List Clause) → falsified t 0 cs ≡ None
 not-falsified t cs e i c f g = falsified-none t 0 cs e i c f g
 
 -- a clause whose literals are all set and that is not falsified is met
-pub set-meets : (t : Trail) (c : Clause) → ((l : ℕ) → Holds l c → (e : Entry) × (entry_of t (variable_of l) ≡ Some e)) → (status t c ≡ Falsified → ⊥) → Meets (assigned t) c
+pub set-meets : (t : Trail) (c : Clause) → ((l : ℕ) → HasLiteral l c → (e : Entry) × (entry_of t (variable_of l) ≡ Some e)) → (status t c ≡ Falsified → ⊥) → Satisfies (assigned t) c
 set-meets t [] set n = absurd (n refl)
 set-meets t (l ∷ c) set n = go (λ m. set-meets t c (λ k h. set k (inr h)) m) (set l (inl refl))
   where
-    go : ((status t c ≡ Falsified → ⊥) → Meets (assigned t) c) → (e : Entry) × (entry_of t (variable_of l) ≡ Some e) → Meets (assigned t) (l ∷ c)
+    go : ((status t c ≡ Falsified → ⊥) → Satisfies (assigned t) c) → (e : Entry) × (entry_of t (variable_of l) ≡ Some e) → Satisfies (assigned t) (l ∷ c)
     go rec x = by (x.0.literal == l) refl
       where
-        by : (b : Bool) → (x.0.literal == l) ≡ b → Meets (assigned t) (l ∷ c)
+        by : (b : Bool) → (x.0.literal == l) ≡ b → Satisfies (assigned t) (l ∷ c)
         by true f = (l, inl refl, ap (λ o. value_in o) x.1 ∙ ap (λ l. sign_of l) (eqb-true x.0.literal l f))
         by false f =
             let v : value_of t l ≡ False = ap (λ o. value_at l o) x.1 ∙ ap (λ b. if b then True else False) f in
-            let r : Meets (assigned t) c = rec (λ q. n (ap (λ v. status_with v l (status t c)) v ∙ q)) in
+            let r : Satisfies (assigned t) c = rec (λ q. n (ap (λ v. status_with v l (status t c)) v ∙ q)) in
             (r.0, inr r.1, r.2)
 
 pub falsified-is : (t : Trail) (k : ℕ) (cs : List Clause) (j : ℕ) (c : Clause) → falsified t k cs ≡ Some (j, c) → (i : ℕ) × (j ≡ k + i) × (slice_get cs i ≡ Some c) × (status t c ≡ Falsified)

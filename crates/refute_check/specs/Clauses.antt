@@ -1,4 +1,4 @@
--- Clauses in conjunctive normal form, and the assignments that meet them.
+-- Clauses in conjunctive normal form, and the assignments that satisfy them.
 --
 -- Variables are numbered. A literal is a number too: 2 v stands for the variable v, and 2 v + 1 for its negation, as in
 -- the AIGER format.
@@ -28,20 +28,20 @@ sign_of literal = literal % 2 == 0
 abbrev pub Assignment : Type 0
 Assignment = ℕ → Bool
 
--- the clause holds this literal
-abbrev pub Holds : ℕ → Clause → Type 0
-Holds literal [] = ⊥
-Holds literal (first ∷ rest) = (literal ≡ first) ⊎ Holds literal rest
+-- the literal is one of the clause
+abbrev pub HasLiteral : ℕ → Clause → Type 0
+HasLiteral literal [] = ⊥
+HasLiteral literal (first ∷ rest) = (literal ≡ first) ⊎ HasLiteral literal rest
 
--- an assignment meets a clause where it makes a literal of it true
-abbrev pub Meets : Assignment → Clause → Type 0
-Meets assignment clause =
-    (literal : ℕ) × Holds literal clause × (assignment (variable_of literal) ≡ sign_of literal)
+-- an assignment satisfies a clause where it makes a literal of it true
+abbrev pub Satisfies : Assignment → Clause → Type 0
+Satisfies assignment clause =
+    (literal : ℕ) × HasLiteral literal clause × (assignment (variable_of literal) ≡ sign_of literal)
 
-abbrev pub MeetsAll : Assignment → List Clause → Type 0
-MeetsAll assignment [] = Unit {0}
-MeetsAll assignment (clause ∷ clauses) = Meets assignment clause × MeetsAll assignment clauses
+abbrev pub SatisfiesAll : Assignment → List Clause → Type 0
+SatisfiesAll assignment [] = Unit {0}
+SatisfiesAll assignment (clause ∷ clauses) = Satisfies assignment clause × SatisfiesAll assignment clauses
 
--- no assignment meets all the clauses
+-- no assignment satisfies all the clauses
 abbrev pub IsUnsatisfiable : List Clause → Type 0
-IsUnsatisfiable clauses = (assignment : Assignment) → MeetsAll assignment clauses → ⊥
+IsUnsatisfiable clauses = (assignment : Assignment) → SatisfiesAll assignment clauses → ⊥

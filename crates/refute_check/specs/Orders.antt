@@ -1,6 +1,6 @@
 -- Assignments in the order in which variables are decided.
 use Rattle.std.specs.Prelude.{◌≡◌, ℕ, true, false, List, [], ◌∷◌, ◌++◌, ◌⊎◌}
-use Rattle.refute_check.specs.Clauses.{Clause, Assignment, Holds, variable_of}
+use Rattle.refute_check.specs.Clauses.{Clause, Assignment, HasLiteral, variable_of}
 
 -- the list names this variable
 abbrev pub Names : List ℕ → ℕ → Type 0
@@ -11,7 +11,7 @@ Names (first ∷ rest) variable = (variable ≡ first) ⊎ Names rest variable
 abbrev pub NamesAll : List ℕ → List Clause → Type 0
 NamesAll order [] = Unit {0}
 NamesAll order (clause ∷ clauses) =
-    ((literal : ℕ) → Holds literal clause → Names order (variable_of literal)) × NamesAll order clauses
+    ((literal : ℕ) → HasLiteral literal clause → Names order (variable_of literal)) × NamesAll order clauses
 
 -- the two give the same values to these variables
 abbrev pub AreSame : Assignment → Assignment → List ℕ → Type 0

@@ -1,6 +1,6 @@
 // Laws of the clause machine.
 ghost use Rattle.std.specs.Prelude.{◌≡◌, ◌≤◌, ◌⊎◌, ℕ, List};
-ghost use Rattle.refute_check.specs.Clauses.{Clause, Assignment, MeetsAll, IsUnsatisfiable};
+ghost use Rattle.refute_check.specs.Clauses.{Clause, Assignment, SatisfiesAll, IsUnsatisfiable};
 ghost use Rattle.refute_check.specs.Logs.{IsAccepted};
 ghost use Rattle.refute_check.specs.Machine.{State, Trail, On, Model, Refuted, turns, start, assigned, count_at, level_now};
 ghost use Rattle.refute_check.specs.Latest.{latest, is_held, is_held_at};
@@ -27,9 +27,9 @@ pub fn refuted_is_accepted()
 /// A model meets the clauses, and every assignment that does is the same in the order or greater.
 pub fn model_is_least()
     ensures meets { (clauses : List Clause) (order : List ℕ) (bound : ℕ) → NamesAll order clauses → (count : ℕ) (trail : Trail)
-        → turns order bound count (start clauses) ≡ Model trail → MeetsAll (assigned trail) clauses }
+        → turns order bound count (start clauses) ≡ Model trail → SatisfiesAll (assigned trail) clauses }
     ensures least { (clauses : List Clause) (order : List ℕ) (bound : ℕ) → NamesAll order clauses → (count : ℕ) (trail : Trail)
-        → turns order bound count (start clauses) ≡ Model trail → (other : Assignment) → MeetsAll other clauses
+        → turns order bound count (start clauses) ≡ Model trail → (other : Assignment) → SatisfiesAll other clauses
         → AreSame (assigned trail) other order ⊎ IsGreater order (assigned trail) other }
 {}
 

@@ -2,7 +2,7 @@
 ghost use Rattle.std.specs.Prelude.{◌≡◌, ◌++◌, ◌&&◌, Option, Some, None, IfOk, OnOk, MatchBool, slice_get, option_map};
 ghost use Rattle.refute_check.specs.Resolution.{has, joined, resolvent};
 ghost use Rattle.refute_check.specs.Logs.{result_of};
-ghost use Rattle.refute_check.specs.Alike.{AreAlike, BothAlike};
+ghost use Rattle.refute_check.specs.code.Alike.{AreAlike, BothAlike};
 
 use crate::formulas::Clause;
 use crate::items::Items;

@@ -13,7 +13,8 @@ pub fn bytes_of(alloc: Global, text: &str) -> Result<Vec<u8>, AllocError> {
     Ok(bytes)
 }
 
-fn digit(c: u8) -> u8
+/// The number of a hexadecimal digit. Another character counts as 0.
+pub fn digit(c: u8) -> u8
     ensures { result < 16 }
 {
     match c {

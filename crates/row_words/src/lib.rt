@@ -7,6 +7,6 @@ pub mod bytes;
 pub mod making;
 pub mod words;
 
-pub use bytes::{bytes_of, put_bytes};
+pub use bytes::{bytes_of, digit, put_bytes};
 pub use making::{empty_module, none, one};
 pub use words::{Words, numbers, words_of};

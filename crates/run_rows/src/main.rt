@@ -6,10 +6,9 @@
 // bounds.
 #![tactic(auto)]
 
-ghost use Rattle.std.specs.Prelude.{◌<◌};
-
 use owi_base::{MemSink, MemSource};
 use owi_cmd::owi_plain;
+use row_words::bytes_of;
 use std::alloc::{AllocError, Global};
 use std::io;
 
@@ -58,23 +57,4 @@ fn put_lines(answer: &mut String, written: &[u8]) -> Result<(), AllocError> {
         let _ = answer.pop();
     }
     Ok(())
-}
-
-// The bytes that hexadecimal digits write, two each. Other characters count as 0.
-fn bytes_of(alloc: Global, text: &str) -> Result<Vec<u8>, AllocError> {
-    let mut bytes = Vec::new(alloc);
-    for pair in text.as_bytes().chunks_exact(2) {
-        bytes.push(digit(pair[0]) * 16 + digit(pair[1]))?;
-    }
-    Ok(bytes)
-}
-
-fn digit(c: u8) -> u8
-    ensures { result < 16 }
-{
-    match c {
-        b'0'..=b'9' => c - b'0',
-        b'a'..=b'f' => c - b'a' + 10,
-        _ => 0,
-    }
 }

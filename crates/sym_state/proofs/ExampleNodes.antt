@@ -9,7 +9,7 @@ use Rattle.wasm_reduction.specs.Configurations.{Test, Pick}
 use Rattle.wasm_reduction.specs.Examples.{draw32}
 use Rattle.wasm_reduction.specs.Runs.{Over, Stands}
 use Rattle.wasm_reduction.specs.Scripts.{Script, Finished, Asked, Past}
-use Rattle.wasm_reduction.specs.ScriptExamples.{looks_up, looked_up, Tells}
+use Rattle.wasm_reduction.specs.ScriptExamples.{looks_up, looked_up, HasScript}
 use Rattle.wasm_reduction.proofs.ScriptExampleRuns.{script_examples}
 use Rattle.wasm_reduction.proofs.ScriptLaws.{one-script}
 use Rattle.bv_terms.specs.Making.{made}
@@ -28,7 +28,7 @@ picks = refl
 abbrev looked_up_first : Script
 looked_up_first = Asked Test 0 (draw32 0 ∷ []) (Asked Pick 0 (draw32 0 ∷ []) (Finished (Returns (I32 1 ∷ [])) (draw32 0 ∷ [])))
 
-first_is : Tells looks_up (0 ∷ []) looked_up_first
+first_is : HasScript looks_up (0 ∷ []) looked_up_first
 unfolding operator_of load_of store_of
 first_is = (record { turns = 80; halt = _; trace = _; over = refl; first = (refl, refl) }, (record { turns = 80; halt = _; trace = _; over = refl; first = (refl, refl) }, record { turns = 80; halt = _; trace = _; over = refl; first = (refl, refl) }))
 

@@ -18,17 +18,9 @@ use Rattle.sym_state.specs.Nodes.{CanExplore, Node, IsMemberAt, IsMember, IsAtMo
 use Rattle.sym_state.specs.States.{Path, over_terms, Follows, FollowsBefore, SameInput, Least, IsLeastGiven, numbers_taken}
 use Rattle.sym_state.proofs.ValueLemmas.{listed}
 use Rattle.sym_state.proofs.PlaceLemmas.{over, at-answered, turn-next}
+use Rattle.wasm_reduction.proofs.ScriptAgain.{Extends, extends-self, extends-more}
 
 -- ---- symbols are never taken back
-
-abbrev Extends : List Bool → List Bool → Type 0
-Extends xs ys = (zs : List Bool) × (ys ≡ xs ++ zs)
-
-extends-self : (xs : List Bool) → Extends xs xs
-extends-self xs = ([], sym (append-nil xs))
-
-extends-more : (xs ys zs : List Bool) → Extends xs ys → Extends ys zs → Extends xs zs
-extends-more xs ys zs h k = (h.0 ++ k.0, k.1 ∙ ap (λ l. l ++ k.0) h.1 ∙ append_assoc xs h.0 k.0)
 
 abbrev symbols : Turned Term → List Bool
 symbols x = (trace_of x).symbols

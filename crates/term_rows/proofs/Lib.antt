@@ -1,2 +1,2 @@
-mod DeskLemmas
+mod SessionLemmas
 mod QuestionLemmas

@@ -12,9 +12,9 @@ use Rattle.bv_terms.specs.Terms.{Term, Number, Symbol, Unary, Binary, Choose, By
 use Rattle.bv_terms.specs.Graphs.{TermGraph, IsGraph, Holds, term_of, form_term, terms_of}
 use Rattle.bv_terms.proofs.GraphLemmas.{held}
 use Rattle.bit_blast.specs.Meanings.{IsProper, AreProper, CanBeLeast}
-use Rattle.bit_blast.specs.Walks.{term_at, conditions_of, first_of}
+use Rattle.bit_blast.specs.GraphConditions.{term_at, conditions_of, first_of}
 use Rattle.term_rows.specs.declared.questions.Question.{Question}
-use Rattle.term_rows.specs.Desks.{HaveSymbols, is_over, IsOver, IsAsked, IsQuestion}
+use Rattle.term_rows.specs.Sessions.{HaveSymbols, is_over, IsOver, IsAsked, IsQuestion}
 
 -- ---- flags
 

@@ -1,6 +1,6 @@
 """Writes the rows of formulas and questions, and their answers, after the rows of terms: python3 make.py, in this folder."""
 
-from desk import Rows, fingerprint
+from session import Rows, fingerprint
 from operators import ARITHMETIC, BINARY, COMPARISONS, UNARY, binary, unary
 
 BEGINS = "# ---- formulas: each operator on symbols"

@@ -142,17 +142,17 @@ def answer(graph, line):
 def main():
     with open("../stdin", encoding="utf-8") as file:
         lines = file.read().split(BEGINS)[0].splitlines()
-    desk, first, answers = Graph(), Graph(), []
+    session, first, answers = Graph(), Graph(), []
     for line in lines:
         if line == "reset":
-            desk = Graph()
+            session = Graph()
         elif line == "freeze":
-            first, desk = desk, desk.twin()
+            first, session = session, session.twin()
         elif line == "first":
-            desk, first = first, desk
+            session, first = first, session
         elif line and not line.startswith("#"):
             try:
-                answers.append(f"{answer(desk, line)}: {line}")
+                answers.append(f"{answer(session, line)}: {line}")
             except Refused:
                 answers.append(f"refused: {line}")
             continue

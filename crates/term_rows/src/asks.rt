@@ -1,13 +1,13 @@
 // What a line asks about conditions.
 ghost use Rattle.std.specs.Prelude.{◌≤◌, IfOk, IfSome};
-ghost use Rattle.term_rows.specs.Desks.{IsQuestion};
+ghost use Rattle.term_rows.specs.Sessions.{IsQuestion};
 
-use crate::desk::Desk;
 use crate::prints::fingerprint;
 use crate::questions::{Question, ask, formula, least_value_of, question_about, refuting_log};
-use crate::words::{Words, numbers};
+use crate::session::Session;
 use path_ask::{Pick, Verdict};
 use refute_check::Chain;
+use row_words::{Words, numbers};
 use std::alloc::{AllocError, Global};
 
 // Whether each of the symbols is wide, by their widths.
@@ -18,10 +18,10 @@ fn draws_of(alloc: Global, widths: &[u64]) -> Result<Vec<bool>, AllocError> {
 // The question of a line: `W .. : A .. : B .. : C`.
 fn question_of(
     alloc: Global,
-    desk: &Desk,
+    session: &Session,
     words: &mut Words,
 ) -> Result<Option<Question>, AllocError>
-    ensures { IfOk result (λ found. IfSome found (IsQuestion desk.now)) }
+    ensures { IfOk result (λ found. IfSome found (IsQuestion session.now)) }
 {
     let widths = numbers(alloc, words)?;
     let draws = draws_of(alloc, widths.as_slice())?;
@@ -33,7 +33,7 @@ fn question_of(
     let least = words.number();
     question_about(
         alloc,
-        desk,
+        session,
         draws,
         nonzero.as_slice(),
         zero.as_slice(),
@@ -64,11 +64,15 @@ fn with_numbers(alloc: Global, head: String, numbers: &[u64]) -> Result<String, 
 }
 
 /// How many variables and clauses a formula has, and its print.
-pub fn formula_line(alloc: Global, desk: &Desk, words: &mut Words) -> Result<String, AllocError> {
-    let Some(question) = question_of(alloc, desk, words)? else {
+pub fn formula_line(
+    alloc: Global,
+    session: &Session,
+    words: &mut Words,
+) -> Result<String, AllocError> {
+    let Some(question) = question_of(alloc, session, words)? else {
         return refused(alloc);
     };
-    let cnf = formula(alloc, desk.graph(), &question)?;
+    let cnf = formula(alloc, session.graph(), &question)?;
     let vars = cnf.vars;
     let count = cnf.clauses.len();
     let print = fingerprint(&cnf);
@@ -76,14 +80,14 @@ pub fn formula_line(alloc: Global, desk: &Desk, words: &mut Words) -> Result<Str
 }
 
 /// The least input that meets conditions, or that none does.
-pub fn ask_line(alloc: Global, desk: &Desk, words: &mut Words) -> Result<String, AllocError> {
+pub fn ask_line(alloc: Global, session: &Session, words: &mut Words) -> Result<String, AllocError> {
     let Some(conflicts) = bound(words) else {
         return refused(alloc);
     };
-    let Some(question) = question_of(alloc, desk, words)? else {
+    let Some(question) = question_of(alloc, session, words)? else {
         return refused(alloc);
     };
-    match ask(alloc, desk.graph(), &question, conflicts)? {
+    match ask(alloc, session.graph(), &question, conflicts)? {
         Verdict::Least(input) => {
             let head = String::from_str(alloc, "least")?;
             with_numbers(alloc, head, input.as_slice())
@@ -94,14 +98,18 @@ pub fn ask_line(alloc: Global, desk: &Desk, words: &mut Words) -> Result<String,
 }
 
 /// The least value of a term at the inputs that meet conditions.
-pub fn pick_line(alloc: Global, desk: &Desk, words: &mut Words) -> Result<String, AllocError> {
+pub fn pick_line(
+    alloc: Global,
+    session: &Session,
+    words: &mut Words,
+) -> Result<String, AllocError> {
     let Some(conflicts) = bound(words) else {
         return refused(alloc);
     };
-    let Some(question) = question_of(alloc, desk, words)? else {
+    let Some(question) = question_of(alloc, session, words)? else {
         return refused(alloc);
     };
-    match least_value_of(alloc, desk.graph(), &question, conflicts)? {
+    match least_value_of(alloc, session.graph(), &question, conflicts)? {
         Some(Pick::Least { value, input }) => {
             let head = format!(in alloc; "value {value} at")?;
             with_numbers(alloc, head, input.as_slice())
@@ -120,14 +128,14 @@ fn steps_of(chains: &[Chain]) -> usize {
 }
 
 /// How many chains and steps the log has that refutes conditions.
-pub fn log_line(alloc: Global, desk: &Desk, words: &mut Words) -> Result<String, AllocError> {
+pub fn log_line(alloc: Global, session: &Session, words: &mut Words) -> Result<String, AllocError> {
     let Some(conflicts) = bound(words) else {
         return refused(alloc);
     };
-    let Some(question) = question_of(alloc, desk, words)? else {
+    let Some(question) = question_of(alloc, session, words)? else {
         return refused(alloc);
     };
-    match refuting_log(alloc, desk.graph(), &question, conflicts)? {
+    match refuting_log(alloc, session.graph(), &question, conflicts)? {
         Some(log) => {
             let chains = log.len();
             let steps = steps_of(log.as_slice());

@@ -2,7 +2,7 @@
 ghost use Rattle.std.specs.Prelude.{◌≡◌, ◌↔◌, IsTrue, IfOk, All, slice_get, Some};
 ghost use Rattle.bv_terms.specs.declared.words.Word.TheVariants.{Term as Numbered};
 ghost use Rattle.bv_terms.specs.Graphs.{Holds};
-ghost use Rattle.term_rows.specs.Desks.{HaveSymbols, IsOver, AreOver, IsAsked, is_over as is_over_of};
+ghost use Rattle.term_rows.specs.Sessions.{HaveSymbols, IsOver, AreOver, IsAsked, is_over as is_over_of};
 
 use bv_terms::{Form, Graph, TermId, Word};
 use std::alloc::{AllocError, Global};

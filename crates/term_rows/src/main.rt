@@ -19,39 +19,38 @@
 #![tactic(auto)]
 
 mod asks;
-mod desk;
 mod drawn;
 mod forms;
 mod lines;
 mod prints;
 mod questions;
-mod words;
+mod session;
 
-use desk::Desk;
 use lines::answer;
+use session::Session;
 use std::{io, mem};
 
 fn main(rt: HostRuntime) -> io::Result<()> {
-    let mut desk = Desk::new(rt.alloc())?;
-    let mut first = Desk::new(rt.alloc())?;
+    let mut session = Session::new(rt.alloc())?;
+    let mut first = Session::new(rt.alloc())?;
     for line in rt.lines(rt.alloc()) {
         let line = line?;
         let text = line.as_str();
         if text.is_empty() || text.starts_with("#") {
             println!(rt; "{text}")?;
         } else if text == "reset" {
-            desk = Desk::new(rt.alloc())?;
+            session = Session::new(rt.alloc())?;
             println!(rt; "{text}")?;
         } else if text == "freeze" {
-            let (one, other) = desk.freeze()?;
+            let (one, other) = session.freeze()?;
             first = one;
-            desk = other;
+            session = other;
             println!(rt; "{text}")?;
         } else if text == "first" {
-            mem::swap(&mut desk, &mut first);
+            mem::swap(&mut session, &mut first);
             println!(rt; "{text}")?;
         } else {
-            let answer = answer(rt.alloc(), &mut desk, text)?;
+            let answer = answer(rt.alloc(), &mut session, text)?;
             println!(rt; "{answer}: {text}")?;
         }
     }

@@ -1,12 +1,12 @@
 // Questions about conditions on terms.
 ghost use Rattle.std.specs.Prelude.{◌≡◌, ◌≤◌, IfOk, IfSome, OnOk, All};
 ghost use Rattle.bit_blast.specs.Formulas.{formula as formula_of};
-ghost use Rattle.bit_blast.specs.Walks.{conditions_of, first_of};
-ghost use Rattle.path_ask.specs.Verdicts.{IsRight};
-ghost use Rattle.term_rows.specs.Desks.{AreOver, IsAsked, IsQuestion};
+ghost use Rattle.bit_blast.specs.GraphConditions.{conditions_of, first_of};
+ghost use Rattle.path_ask.specs.Verdicts.{IsCorrectVerdict};
+ghost use Rattle.term_rows.specs.Sessions.{AreOver, IsAsked, IsQuestion};
 
-use crate::desk::Desk;
 use crate::drawn::Drawn;
+use crate::session::Session;
 use bit_blast::clauses;
 use bv_terms::{Cond, Graph, TermId};
 use clause_solver::{Answer, solve};
@@ -25,21 +25,21 @@ pub struct Question {
 // Conditions with one answer on the terms at these places come after the others; false where there is no term over the symbols
 // at one of them.
 fn put_conds(
-    desk: &Desk,
+    session: &Session,
     drawn: &Drawn,
     conds: &mut Vec<Cond>,
     places: &[u64],
     answer: bool,
 ) -> Result<bool, AllocError>
-    requires over { AreOver desk.now drawn.now }
-    requires asked { All (λ cond. IsAsked desk.now drawn.now cond.term) conds.old.items }
-    ensures { OnOk result (All (λ cond. IsAsked desk.now drawn.now cond.term) conds.new.items) }
+    requires over { AreOver session.now drawn.now }
+    requires asked { All (λ cond. IsAsked session.now drawn.now cond.term) conds.old.items }
+    ensures { OnOk result (All (λ cond. IsAsked session.now drawn.now cond.term) conds.new.items) }
 {
     for place in places {
-        let Some(term) = desk.term(*place) else {
+        let Some(term) = session.term(*place) else {
             return Ok(false);
         };
-        if !drawn.has(desk.graph(), term) {
+        if !drawn.has(session.graph(), term) {
             return Ok(false);
         }
         conds.push(Cond { term, answer })?;
@@ -51,20 +51,20 @@ fn put_conds(
 /// the term at a place to be least; None where one of them is no term over the symbols, or the last has other than 32 bits.
 pub fn question_about(
     alloc: Global,
-    desk: &Desk,
+    session: &Session,
     draws: Vec<bool>,
     nonzero: &[u64],
     zero: &[u64],
     least: Option<u64>,
 ) -> Result<Option<Question>, AllocError>
-    ensures { IfOk result (λ found. IfSome found (IsQuestion desk.now)) }
+    ensures { IfOk result (λ found. IfSome found (IsQuestion session.now)) }
 {
-    let drawn = Drawn::new(alloc, desk.graph(), draws)?;
+    let drawn = Drawn::new(alloc, session.graph(), draws)?;
     let mut conds = Vec::new(alloc);
-    if !put_conds(desk, &drawn, &mut conds, nonzero, true)? {
+    if !put_conds(session, &drawn, &mut conds, nonzero, true)? {
         return Ok(None);
     }
-    if !put_conds(desk, &drawn, &mut conds, zero, false)? {
+    if !put_conds(session, &drawn, &mut conds, zero, false)? {
         return Ok(None);
     }
     let Some(place) = least else {
@@ -74,10 +74,10 @@ pub fn question_about(
             least: None,
         }));
     };
-    let Some(term) = desk.narrow(place) else {
+    let Some(term) = session.narrow(place) else {
         return Ok(None);
     };
-    if !drawn.has(desk.graph(), term) {
+    if !drawn.has(session.graph(), term) {
         return Ok(None);
     }
     Ok(Some(Question {
@@ -122,7 +122,7 @@ pub fn refuting_log(
 pub fn ask(alloc: Global, g: &Graph, q: &Question, conflicts: u64) -> Result<Verdict, AllocError>
     requires question { IsQuestion g.now q.now }
     requires conflicts { 1 ≤ conflicts }
-    ensures { IfOk result (λ verdict. IsRight (conditions_of g.now q.now.conds.items) q.now.drawn.draws.items verdict) }
+    ensures { IfOk result (λ verdict. IsCorrectVerdict (conditions_of g.now q.now.conds.items) q.now.drawn.draws.items verdict) }
 {
     other_side(
         alloc,

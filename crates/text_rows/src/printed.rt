@@ -1,6 +1,5 @@
 // The answers of the printer.
-ghost use Rattle.std.specs.Prelude.{◌<◌};
-
+use row_words::bytes_of;
 use std::alloc::{AllocError, Global};
 use wasm_read::read_module;
 use wat_print::print_text;
@@ -27,23 +26,4 @@ fn shown(alloc: Global, text: &[u8]) -> Result<String, AllocError> {
         }
     }
     Ok(out)
-}
-
-// The bytes that hexadecimal digits write, two each. Other characters count as 0.
-fn bytes_of(alloc: Global, text: &str) -> Result<Vec<u8>, AllocError> {
-    let mut bytes = Vec::new(alloc);
-    for pair in text.as_bytes().chunks_exact(2) {
-        bytes.push(digit(pair[0]) * 16 + digit(pair[1]))?;
-    }
-    Ok(bytes)
-}
-
-fn digit(c: u8) -> u8
-    ensures { result < 16 }
-{
-    match c {
-        b'0'..=b'9' => c - b'0',
-        b'a'..=b'f' => c - b'a' + 10,
-        _ => 0,
-    }
 }

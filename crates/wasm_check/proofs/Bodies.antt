@@ -25,7 +25,7 @@ emptiness (Ifs t b o c) = inr (λ xs ys. refl)
 
 -- lists
 
-AllMatch-self : (ts : List Operand) → AllMatch ts ts
+pub AllMatch-self : (ts : List Operand) → AllMatch ts ts
 AllMatch-self [] = tt
 AllMatch-self (t ∷ ts) = (Matches-self t, AllMatch-self ts)
 

@@ -1,7 +1,7 @@
 -- Constant expressions: the count of operands is right by the typing of sequences.
 use Rattle.std.proofs.Common.{◌≡◌, ℕ, zero, suc, ◌+◌, ◌-◌, ◌<◌, List, [], ◌∷◌, ◌++◌, length, get_or, refl, sym, ap, ◌∙◌, subst, arith, ◌⊎◌, inl, inr}
 use Rattle.std.specs.Prelude.{Bool, true, false, not, ◌&&◌, ◌||◌, nat_lt, ◌==◌, All, IsTrue, Option, Some, None, slice_get, ◌↔◌}
-use Rattle.std.proofs.lemmas.Bool.{ltb-true, lt-ltb}
+use Rattle.std.proofs.lemmas.Bool.{ltb-true, lt-ltb, and_parts as both, or_left as left-is}
 use Rattle.std.proofs.lemmas.Bool.Decides.{nat_tests}
 use Rattle.wasm_ast.specs.Opcodes.{is_from}
 use Rattle.wasm_ast.specs.declared.types.ValType.{ValType}
@@ -23,16 +23,9 @@ use Rattle.wasm_check.proofs.Stacks.{when-some, same_type-true, same_type-self}
 
 -- ---- tests
 
-both : (a b : Bool) → (a && b) ≡ true → (a ≡ true) × (b ≡ true)
-both true b e = (refl, e)
-both false b e = cc
-
 either : (a b : Bool) → (a || b) ≡ true → (a ≡ true) ⊎ (b ≡ true)
 either true b e = inl refl
 either false b e = inr e
-
-left-is : (a b : Bool) → a ≡ true → (a || b) ≡ true
-left-is a b e = ap (λ a. a || b) e
 
 right-is : (a b : Bool) → b ≡ true → (a || b) ≡ true
 right-is true b e = refl

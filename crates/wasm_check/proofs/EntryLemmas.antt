@@ -9,7 +9,7 @@ use Rattle.wasm_check.specs.declared.sections.Section.TheVariants.{Imports, Func
 use Rattle.wasm_check.specs.Modules.{OfEntry, EntryIsValid, SectionIsValid}
 use Rattle.wasm_check.specs.code.Sections.{section_size}
 
-same-entry : {A : Type 0} (x y : A) → Some x ≡ Some y → x ≡ y
+pub same-entry : {A : Type 0} (x y : A) → Some x ≡ Some y → x ≡ y
 same-entry x y e = cc
 
 -- the test tells the rule of the entry k, which is x

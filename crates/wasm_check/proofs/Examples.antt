@@ -77,13 +77,13 @@ sum_body = Plain (Const32 2) (Plain (Const32 40) (Plain (Num 0x6A) Nothing))
 abbrev sum_module : Module
 sum_module = straight_module (102 ∷ []) (Const32 2 ∷ Const32 40 ∷ Num 0x6A ∷ [])
 
-no-entry : {A : Type 0} (k : ℕ) (x : A) → slice_get [] k ≡ Some x → ⊥
+pub no-entry : {A : Type 0} (k : ℕ) (x : A) → slice_get [] k ≡ Some x → ⊥
 no-entry {A} k x e = let past : slice_get [] k ≡ None = slice_get_past {X = A} [] k (omega arith) in cc
 
 no-second : {A : Type 0} (a : A) (k : ℕ) (x : A) → slice_get (a ∷ []) (suc k) ≡ Some x → ⊥
 no-second a k x e = no-entry k x e
 
-some-same : {A : Type 0} (a x : A) → Some a ≡ Some x → a ≡ x
+pub some-same : {A : Type 0} (a x : A) → Some a ≡ Some x → a ≡ x
 some-same a x e = cc
 
 abbrev sum_func : Func

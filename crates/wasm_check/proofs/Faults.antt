@@ -17,11 +17,7 @@ use Rattle.wasm_check.specs.Faults.{CanBegin, IsFirstFault}
 use Rattle.wasm_check.specs.code.Checker.{Stack, bind, onto, popped, acts, Open, labels_of, opened, second, reads, run, start_of, fault, fault_after, later}
 use Rattle.wasm_check.proofs.Stacks.{bind-some, Covers, Covered, Fits, Matches-self, popped-sound, Covers-append}
 use Rattle.wasm_check.proofs.Rules.{Covers-self, Takes-self, Sound, acts-sound}
-use Rattle.wasm_check.proofs.Bodies.{emptiness, Reaches, finished-complete, at_stack, after_end, complete, Passes, plain-passes, inner-typed, around-passes, Opened, OpenedAs, block-some, ends-some, ends_first-some, turns-some, nothing-typed, sound, Covers-live}
-
-AllMatch-self : (ts : List Operand) → AllMatch ts ts
-AllMatch-self [] = tt
-AllMatch-self (t ∷ ts) = (Matches-self t, AllMatch-self ts)
+use Rattle.wasm_check.proofs.Bodies.{emptiness, Reaches, finished-complete, at_stack, after_end, complete, Passes, plain-passes, inner-typed, around-passes, Opened, OpenedAs, block-some, ends-some, ends_first-some, turns-some, nothing-typed, sound, Covers-live, AllMatch-self}
 
 written-append : (c : Tree) (xs ys : List Token) → written c xs ++ ys ≡ written c (xs ++ ys)
 written-append Nothing xs ys = refl

@@ -36,7 +36,7 @@ use Rattle.wasm_check.specs.code.Counts.{leaves_one}
 use Rattle.wasm_check.specs.code.Sections.{section_size}
 use Rattle.wasm_check.proofs.ConstantLemmas.{constant-one, head-of, tail-of, all-cons}
 use Rattle.wasm_check.proofs.ContextLemmas.{found-of}
-use Rattle.wasm_check.proofs.EntryLemmas.{all_valid}
+use Rattle.wasm_check.proofs.EntryLemmas.{all_valid, same-entry}
 use Rattle.wasm_check.proofs.FaultLemmas.{all-at}
 use Rattle.wasm_check.proofs.FirstFaults.{apart}
 use Rattle.wasm_check.proofs.ModuleLemmas.{valid_below-more, all_below, fails-invalid}
@@ -114,9 +114,6 @@ is-none (Some x) = inr (λ e. absurd cc)
 all-of : {A : Type 0} (P : A → Type 0) → ((x : A) → Decided (P x)) → (xs : List A) → Decided (All P xs)
 all-of P d [] = inl (λ j x lt. absurd (omega (arith, lt)))
 all-of P d (x ∷ xs) = same-as (λ h. all-cons P x xs h.0 h.1) (λ h. (head-of P x xs h, tail-of P x xs h)) (both (d x) (all-of P d xs))
-
-same-entry : {A : Type 0} (x y : A) → Some x ≡ Some y → x ≡ y
-same-entry x y e = cc
 
 entry : {A : Type 0} (P : A → Type 0) → ((x : A) → Decided (P x)) → (entries : List A) (k : ℕ) → Decided (OfEntry entries k P)
 entry {A} P d entries k = by (slice_get entries k) refl

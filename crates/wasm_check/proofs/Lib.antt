@@ -1,11 +1,11 @@
 mod Alignment
-mod Bodies
+pub mod Bodies
 mod Carrying
 pub mod ConstantLemmas
 mod ContextLemmas
 mod Deciding
-mod EntryLemmas
-mod Examples
+pub mod EntryLemmas
+pub mod Examples
 mod FaultLemmas
 mod Faults
 mod FaultsExist
@@ -15,10 +15,10 @@ mod LocalLemmas
 mod ModuleLemmas
 mod NameLemmas
 mod OpenLemmas
-mod Rules
+pub mod Rules
 mod RunLemmas
 mod Signatures
-mod Stacks
+pub mod Stacks
 mod TreeLemmas
 mod Verdicts
 mod Walking

@@ -63,7 +63,7 @@ filled-covers (u ∷ wanted) dead (t ∷ ops) gone e =
     let r : (any : List Operand) × Covers dead ops (filled (length wanted) ops ++ any) = filled-covers wanted dead ops gone w.1 in
     (r.0, (filled (length wanted) ops ++ r.0, refl, r.1))
 
-operands-length : (ts : List ValType) → length (operands ts) ≡ length ts
+pub operands-length : (ts : List ValType) → length (operands ts) ≡ length ts
 operands-length ts = length-reverse (map (λ t. Of t) ts) ∙ length-map ts (λ t. Of t)
 
 pub same_count-true : (ts us : List ValType) → same_count ts us ≡ true → length ts ≡ length us

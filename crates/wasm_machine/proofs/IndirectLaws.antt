@@ -10,7 +10,6 @@ use Rattle.wasm_ast.specs.declared.instructions.Instr.TheVariants.{CallIndirect}
 use Rattle.wasm_ast.specs.declared.runs.Cause.TheVariants.{Undefined, Uninitialized, Mismatch}
 use Rattle.wasm_ast.specs.declared.modules.Module.{Module}
 use Rattle.wasm_rules.specs.Words.{Kind, Kept}
-use Rattle.wasm_check.specs.Operands.{same_type}
 use Rattle.wasm_image.specs.Functions.{function_count, function_type}
 use Rattle.wasm_reduction.specs.Configurations.{Reference, FuncRef, Config, Next}
 use Rattle.wasm_reduction.specs.Combinators.{with_found, with_word}
@@ -38,54 +37,17 @@ use Rattle.wasm_machine.proofs.Operands.{found-word, no-word}
 use Rattle.wasm_machine.proofs.ActLaws.{acting, ask-acts, trap-acts, stuck-acts}
 use Rattle.wasm_machine.proofs.Lists.{all-get}
 use Rattle.wasm_machine.proofs.CallLaws.{function_says}
+use Rattle.wasm_reduction.proofs.FunctionTypes.{same-function, same-function-refl}
 
 -- ---- types of functions
 
-same-type-is : (s t : ValType) → same_type s t ≡ true → s ≡ t
-same-type-is I32Type I32Type e = refl
-same-type-is I64Type I64Type e = refl
-same-type-is FuncRefType FuncRefType e = refl
-same-type-is ExternRefType ExternRefType e = refl
-same-type-is _ _ e = cc
-
-same-type-refl : (t : ValType) → same_type t t ≡ true
-same-type-refl I32Type = refl
-same-type-refl I64Type = refl
-same-type-refl FuncRefType = refl
-same-type-refl ExternRefType = refl
-
-both-true : (a b : Bool) → (a && b) ≡ true → (a ≡ true) × (b ≡ true)
-both-true true true e = (refl, refl)
-both-true true false e = cc
-both-true false b e = cc
-
-same-types-is : (ss ts : List ValType) → same_types ss ts ≡ true → ss ≡ ts
-same-types-is [] [] e = refl
-same-types-is [] (t ∷ ts) e = cc
-same-types-is (s ∷ ss) [] e = cc
-same-types-is (s ∷ ss) (t ∷ ts) e =
-    let f = both-true (same_type s t) (same_types ss ts) e in
-    ap (λ x. x ∷ ss) (same-type-is s t f.0) ∙ ap (λ l. t ∷ l) (same-types-is ss ts f.1)
-
-same-types-refl : (ts : List ValType) → same_types ts ts ≡ true
-same-types-refl [] = refl
-same-types-refl (t ∷ ts) = rw (same-type-refl t, same-types-refl ts) refl
-
-function-is : (s t : FuncType) → same_function_type s t ≡ true → s ≡ t
-function-is s t e =
-    let f = both-true (same_types s.params t.params) (same_types s.results t.results) e in
-    ap (λ p. record s { params = p }) (same-types-is s.params t.params f.0) ∙ ap (λ r. record t { results = r }) (same-types-is s.results t.results f.1)
-
-function-refl : (t : FuncType) → same_function_type t t ≡ true
-function-refl t = rw (same-types-refl t.params, same-types-refl t.results) refl
-
 pub same-is : (b : Bool) (s t : FuncType) → (IsTrue b ↔ (s ≡ t)) → b ≡ same_function_type s t
-same-is true s t h = sym (ap (λ x. same_function_type x t) (h.0 refl) ∙ function-refl t)
+same-is true s t h = sym (ap (λ x. same_function_type x t) (h.0 refl) ∙ same-function-refl t)
 same-is false s t h = by (same_function_type s t) refl
   where
     by : (c : Bool) → same_function_type s t ≡ c → false ≡ c
     by false e = refl
-    by true e = h.1 (function-is s t e)
+    by true e = h.1 (same-function s t e)
 
 -- ---- a call of what has the type
 

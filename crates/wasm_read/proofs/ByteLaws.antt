@@ -11,10 +11,10 @@ use Rattle.owi_base.proofs.Choices.{taken, passed, is_false}
 abbrev Answer : Type 0 → Type 0
 Answer A = Result (A × ℕ) Fault
 
-abbrev ok : {A : Type 0} → A → ℕ → Answer A
+abbrev pub ok : {A : Type 0} → A → ℕ → Answer A
 ok x next = Ok (x, next)
 
-abbrev with_first : {A : Type 0} → Answer (List A) → A → Answer (List A)
+abbrev pub with_first : {A : Type 0} → Answer (List A) → A → Answer (List A)
 with_first r x = read_on r (λ xs next. ok (x ∷ xs) next)
 
 front : (w : Window Fault) (at n b : ℕ) (left : List ℕ) → drop at w.bytes ≡ b ∷ left → (many any_byte (suc n)).read w at ≡ with_first ((many any_byte n).read w (at + 1)) b

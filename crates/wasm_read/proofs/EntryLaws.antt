@@ -2,21 +2,15 @@
 use Rattle.std.proofs.Common.{◌≡◌, ℕ, suc, ◌+◌, ◌-◌, ◌<◌, List, [], ◌∷◌, ◌++◌, Result, Ok, Err, Option, Some, None, IfSome, refl, sym, ap, ◌∙◌, arith, append_assoc}
 use Rattle.grammar_forms.specs.Forms.{Window, Form, many, read_on}
 use Rattle.wasm_binary.specs.Faults.{Fault}
+use Rattle.wasm_read.proofs.ByteLaws.{ok, with_first}
 
 abbrev Answer : Type 0 → Type 0
 Answer A = Result (A × ℕ) Fault
-
-abbrev ok : {A : Type 0} → A → ℕ → Answer A
-ok x next = Ok (x, next)
 
 -- entries that were read, before those that follow
 abbrev pub put_before : {A : Type 0} → List A → Answer (List A) → Answer (List A)
 put_before done (Ok x) = Ok (done ++ x.0, x.1)
 put_before done (Err bad) = Err bad
-
--- an entry before those that follow
-abbrev with_first : {A : Type 0} → Answer (List A) → A → Answer (List A)
-with_first r x = read_on r (λ xs next. ok (x ∷ xs) next)
 
 put_first : {A : Type 0} (done : List A) (x : A) (r : Answer (List A)) → put_before done (with_first r x) ≡ put_before (done ++ x ∷ []) r
 put_first {A} done x (Ok y) = ap (λ (l : List A). ok l y.1) (sym (append_assoc done (x ∷ []) y.0))

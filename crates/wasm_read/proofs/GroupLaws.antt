@@ -12,6 +12,7 @@ use Rattle.wasm_binary.specs.Locals.{same_kind, group, groups, joined, with_fron
 use Rattle.wasm_read.specs.Groups.{put_some, put_group, joined_groups}
 use Rattle.owi_base.proofs.Choices.{taken, passed, either}
 use Rattle.wasm_binary.proofs.KindLaws.{same_kind_is, same_kind_self}
+use Rattle.wasm_read.proofs.ByteLaws.{ok}
 
 -- ---- one group after another, and joined at once
 
@@ -125,9 +126,6 @@ joined_is gs = sym (all_before [] gs) ∙ all_reversed (put_all [] gs) (all_apar
 
 abbrev Answer : Type 0 → Type 0
 Answer A = Result (A × ℕ) Fault
-
-abbrev ok : {A : Type 0} → A → ℕ → Answer A
-ok x next = Ok (x, next)
 
 on_after : {A B C : Type 0} (r : Answer A) (f : A → ℕ → Answer B) (g : B → ℕ → Answer C) → read_on (read_on r f) g ≡ read_on r (λ x next. read_on (f x next) g)
 on_after (Ok x) f g = refl

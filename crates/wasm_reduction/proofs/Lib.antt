@@ -1,3 +1,4 @@
+pub mod FunctionTypes
 pub mod ExampleRuns
 pub mod ScriptExampleRuns
 pub mod Moves

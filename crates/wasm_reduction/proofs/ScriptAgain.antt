@@ -20,13 +20,13 @@ use Rattle.wasm_reduction.proofs.ScriptPlaces.{place, widths-drawn}
 
 -- ---- the symbols of a run, and two ways to draw them
 
-abbrev Extends : List Bool → List Bool → Type 0
+abbrev pub Extends : List Bool → List Bool → Type 0
 Extends xs ys = (zs : List Bool) × (ys ≡ xs ++ zs)
 
-extends-self : (xs : List Bool) → Extends xs xs
+pub extends-self : (xs : List Bool) → Extends xs xs
 extends-self xs = ([], sym (append-nil xs))
 
-extends-more : (xs ys zs : List Bool) → Extends xs ys → Extends ys zs → Extends xs zs
+pub extends-more : (xs ys zs : List Bool) → Extends xs ys → Extends ys zs → Extends xs zs
 extends-more xs ys zs h k = (h.0 ++ k.0, k.1 ∙ ap (λ l. l ++ k.0) h.1 ∙ append_assoc xs h.0 k.0)
 
 last-get : (xs : List Bool) (wide : Bool) (zs : List Bool) → slice_get ((xs ++ wide ∷ []) ++ zs) (length xs) ≡ Some wide

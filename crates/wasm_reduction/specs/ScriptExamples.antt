@@ -23,8 +23,8 @@ looks_up = with_table (Call 0 ∷ TableGet 0 ∷ RefIsNull ∷ [])
 abbrev pub assumes : Module
 assumes = with_hosts (Call 0 ∷ Call 2 ∷ Call 0 ∷ [])
 
-abbrev pub Tells : Module → List ℕ → Script → Type 0
-Tells m input s = IsScript m 4 [] input 100 s
+abbrev pub HasScript : Module → List ℕ → Script → Type 0
+HasScript m input s = IsScript m 4 [] input 100 s
 
 -- at the input 1: the place is tested to be past the end, which it isn't, and picked
 abbrev pub looked_up : Script
@@ -35,10 +35,10 @@ abbrev pub assumed : Script
 assumed = Asked Assume 5 (draw32 5 ∷ []) (Finished (Returns (I32 8 ∷ [])) (draw32 5 ∷ draw32 8 ∷ []))
 
 pub record ScriptExamples : Type 0 where
-  pub place_within : Tells looks_up (1 ∷ []) looked_up
-  pub place_past_the_end : Tells looks_up (5 ∷ []) (Asked Test 1 (draw32 5 ∷ []) (Finished (Traps Table) (draw32 5 ∷ [])))
-  pub assumption_holds : Tells assumes (5 ∷ 8 ∷ []) assumed
-  pub assumption_fails : Tells assumes (0 ∷ 8 ∷ []) (Asked Assume 0 (draw32 0 ∷ []) (Finished Assumes (draw32 0 ∷ [])))
+  pub place_within : HasScript looks_up (1 ∷ []) looked_up
+  pub place_past_the_end : HasScript looks_up (5 ∷ []) (Asked Test 1 (draw32 5 ∷ []) (Finished (Traps Table) (draw32 5 ∷ [])))
+  pub assumption_holds : HasScript assumes (5 ∷ 8 ∷ []) assumed
+  pub assumption_fails : HasScript assumes (0 ∷ 8 ∷ []) (Asked Assume 0 (draw32 0 ∷ []) (Finished Assumes (draw32 0 ∷ [])))
   pub no_unit_left : IsScript looks_up 4 [] (1 ∷ []) 2 (Asked Test 0 (draw32 1 ∷ []) (Asked Pick 1 (draw32 1 ∷ []) (Finished Bound (draw32 1 ∷ []))))
   pub branch : IsScript generated 1 [] (5 ∷ []) 1000 (Asked Test 0 (draw32 5 ∷ []) (Finished (Returns (I32 0 ∷ [])) (draw32 5 ∷ [])))
   pub past_two_answers : Past (0 ∷ 1 ∷ []) looked_up (Finished (Returns (I32 1 ∷ [])) (draw32 1 ∷ []))

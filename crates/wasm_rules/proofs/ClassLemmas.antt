@@ -1,7 +1,7 @@
 -- The classes of opcodes, and the tables of their operators, loads and stores.
 use Rattle.std.proofs.Common.{◌≡◌, ℕ, zero, suc, ◌+◌, ◌<◌, ◌≤◌, Bool, true, false, ◌==◌, refl, sym, subst, arith}
 use Rattle.std.specs.Prelude.{◌&&◌, not, is_some, nat_lt}
-use Rattle.std.proofs.lemmas.Bool.{eqb-true, true≢false}
+use Rattle.std.proofs.lemmas.Bool.{eqb-true, true≢false, and_parts as both}
 use Rattle.wasm_ast.specs.Opcodes as classes
 use Rattle.int_ops.specs.Operators.{operator_of, is_unary, is_binary}
 use Rattle.wasm_rules.specs.Accesses.{load_of, store_of}
@@ -19,10 +19,6 @@ agree false false e = refl
 abbrev each_from : (ℕ → Bool) → ℕ → ℕ → Bool
 each_from test first zero = true
 each_from test first (suc n) = test (first + n) && each_from test first n
-
-both : (a b : Bool) → (a && b) ≡ true → (a ≡ true) × (b ≡ true)
-both true b e = (refl, e)
-both false b e = absurd (true≢false (sym e))
 
 within : (test : ℕ → Bool) (first n : ℕ) → each_from test first n ≡ true → (op : ℕ) → first ≤ op → op < first + n → test op ≡ true
 within test first zero e op a b = absurd (omega (arith, a, b))

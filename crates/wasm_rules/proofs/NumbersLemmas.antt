@@ -1,7 +1,7 @@
 -- Numbers as words.
 use Rattle.std.proofs.Common.{ℕ, ◌^◌, ◌<◌, ◌≤◌, Bool, true, false, List, length, All, arith, subst, sym, ⊎_elim, lt_of_lt_of_le, cond, ◌==◌, ◌/◌}
 use Rattle.std.proofs.lemmas.Nat.{mod_below}
-use Rattle.int_ops.proofs.WidthLemmas.{unary-below, binary-below}
+use Rattle.int_ops.proofs.WidthLemmas.{unary-below, binary-below, either}
 use Rattle.std.proofs.lemmas.Bool.{false≢true}
 use Rattle.int_ops.specs.Bytes.{joined}
 use Rattle.int_ops.proofs.BytesLemmas.{joined-below}
@@ -21,10 +21,6 @@ count_fits false count h =
 
 pub joined-fits : (wide : Bool) (bytes : List ℕ) → CanJoin wide (length bytes) → All (λ b. b < 256) bytes → joined bytes < 2 ^ bits_where wide
 joined-fits wide bytes count each = lt_of_lt_of_le (joined-below bytes each) (count_fits wide (length bytes) count)
-
-either : (P : ℕ → Type 0) (b : Bool) (m n : ℕ) → P m → P n → P (cond b m n)
-either P true m n p q = p
-either P false m n p q = q
 
 pub numbers-give : Gives numbers HasNumber
 numbers-give = record {

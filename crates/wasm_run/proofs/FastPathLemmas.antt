@@ -37,6 +37,7 @@ use Rattle.wasm_machine.proofs.StepLaws.{acts-on, next-is, next-steps, end-steps
 use Rattle.wasm_run.specs.code.Places.{config_at, told_at, IsFit, IsInOrder, IsNeverStuck, MayStep, IsAtInstruction, IsAtEnd, Settled, CarriedOut, IsFastStep}
 use Rattle.wasm_run.proofs.PlaceLemmas.{settled_here}
 use Rattle.wasm_machine.proofs.BoundLaws.{depth-is}
+use Rattle.wasm_run.proofs.ZeroLemmas.{zero_of}
 
 -- ---- instructions that ask nothing
 
@@ -258,9 +259,6 @@ module _ {A : Type 0} {m : Module} {steps : ℕ} {a : A} {s : State (CodeValue �
     end_once {b = false} so gone = absurd cc
 
 -- ---- the module that an image lends, and what is next in it
-
-zero_of : (n : ℕ) → (n == 0) ≡ true → n ≡ 0
-zero_of n none = grind (arith, nat_tests)
 
 none_so : {X : Type 0} (xs : List X) → length xs ≡ 0 → xs ≡ []
 none_so [] none = refl

@@ -38,42 +38,9 @@ use Rattle.wasm_soundness.proofs.Holding.{get-within, hold-match, hold-append, h
 use Rattle.wasm_soundness.proofs.Modules.{BodyFits, ModuleFits, function-fits}
 use Rattle.wasm_soundness.proofs.Parts.{found-fits, word-fits, last-fits, testing-fits, assuming-fits}
 use Rattle.wasm_soundness.proofs.Inversions.{seq-shape}
+use Rattle.wasm_reduction.proofs.FunctionTypes.{same-function}
 
 -- ---- types
-
-same-type : (s t : ValType) → same_type s t ≡ true → s ≡ t
-same-type I32Type I32Type e = refl
-same-type I64Type I64Type e = refl
-same-type FuncRefType FuncRefType e = refl
-same-type ExternRefType ExternRefType e = refl
-same-type I32Type I64Type e = absurd cc
-same-type I32Type FuncRefType e = absurd cc
-same-type I32Type ExternRefType e = absurd cc
-same-type I64Type I32Type e = absurd cc
-same-type I64Type FuncRefType e = absurd cc
-same-type I64Type ExternRefType e = absurd cc
-same-type FuncRefType I32Type e = absurd cc
-same-type FuncRefType I64Type e = absurd cc
-same-type FuncRefType ExternRefType e = absurd cc
-same-type ExternRefType I32Type e = absurd cc
-same-type ExternRefType I64Type e = absurd cc
-same-type ExternRefType FuncRefType e = absurd cc
-
-both : (a b : Bool) → (a && b) ≡ true → (a ≡ true) × (b ≡ true)
-both true b e = (refl, e)
-both false b e = absurd cc
-
-same-list : (ss ts : List ValType) → same_types ss ts ≡ true → ss ≡ ts
-same-list [] [] e = refl
-same-list [] (t ∷ ts) e = absurd cc
-same-list (s ∷ ss) [] e = absurd cc
-same-list (s ∷ ss) (t ∷ ts) e = let p = both (same_type s t) (same_types ss ts) e in ap (λ x. x ∷ ss) (same-type s t p.0) ∙ ap (λ l. t ∷ l) (same-list ss ts p.1)
-
-same-function : (s t : FuncType) → same_function_type s t ≡ true → s ≡ t
-same-function s t e =
-    let p = both (same_types s.params t.params) (same_types s.results t.results) e in
-    let first : s ≡ arrow t.params s.results = ap (λ l. arrow l s.results) (same-list s.params t.params p.0) in
-    first ∙ ap (λ l. arrow t.params l) (same-list s.results t.results p.1)
 
 -- the type of what a function runs
 body-type : (m : Module) (ty : ℕ) (body : Body) → BodyFits m ty body → (t : FuncType) × (slice_get m.types ty ≡ Some t)

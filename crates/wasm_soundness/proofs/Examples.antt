@@ -21,6 +21,7 @@ use Rattle.wasm_image.specs.Hosts.{IsLinked}
 use Rattle.wasm_image.specs.Ready.{IsReady}
 use Rattle.wasm_soundness.specs.Examples.{sum_module}
 use Rattle.wasm_soundness.specs.Laws.{CanBeRun, NamesFunction, Fit}
+use Rattle.wasm_check.proofs.Examples.{no-entry, some-same}
 
 abbrev sum_code : List Instr
 sum_code = Const32 2 ∷ Const32 40 ∷ Num 0x6A ∷ []
@@ -35,12 +36,6 @@ abbrev sum_export : Export
 sum_export = record { name = 102 ∷ []; space = FuncSpace; index = 0 }
 
 -- ---- shape
-
-no-entry : {A : Type 0} (k : ℕ) (x : A) → slice_get [] k ≡ Some x → ⊥
-no-entry {A} k x e = let past : slice_get [] k ≡ None = slice_get_past {X = A} [] k (omega arith) in cc
-
-some-same : {A : Type 0} (a x : A) → Some a ≡ Some x → a ≡ x
-some-same a x e = cc
 
 -- a fact of the only entry is one of each
 only-entry : {A : Type 0} (a : A) (P : ℕ → A → Type 0) → P 0 a → (k : ℕ) (x : A) → slice_get (a ∷ []) k ≡ Some x → P k x

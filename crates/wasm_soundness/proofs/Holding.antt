@@ -11,6 +11,7 @@ use Rattle.wasm_check.specs.Operands.{Matches, AllMatch, operands, Takes}
 use Rattle.wasm_reduction.specs.Configurations.{Reference, Value}
 use Rattle.wasm_soundness.specs.Values.{ReferenceIs, ValueIs, OperandIs, Hold, ofs}
 use Rattle.wasm_soundness.specs.Configurations.{AreReferences}
+use Rattle.wasm_check.proofs.Rules.{operands-length}
 
 -- ---- lists
 
@@ -23,9 +24,6 @@ pub get-mapped : {A B : Type 0} (f : A → B) (xs : List A) (k : ℕ) (y : B) �
 get-mapped f [] k y e = absurd cc
 get-mapped f (x ∷ xs) zero y e = (x, refl, cc)
 get-mapped f (x ∷ xs) (suc k) y e = get-mapped f xs k y e
-
-pub operands-length : (ts : List ValType) → length (operands ts) ≡ length ts
-operands-length ts = length-reverse (ofs ts) ∙ length-map ts (λ t. Of t)
 
 -- ---- what operands take
 

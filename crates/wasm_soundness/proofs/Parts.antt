@@ -18,8 +18,9 @@ use Rattle.wasm_reduction.specs.Ranges.{with_element, indexing, addressing, fill
 use Rattle.wasm_reduction.proofs.WideParts.{each-get}
 use Rattle.wasm_soundness.specs.Values.{ReferenceIs, ValueIs, OperandIs, Hold}
 use Rattle.wasm_soundness.specs.Configurations.{ConfigFits, NextFits}
-use Rattle.wasm_soundness.proofs.Holding.{operands-length, hold-length, hold-first, hold-others}
+use Rattle.wasm_soundness.proofs.Holding.{hold-length, hold-first, hold-others}
 use Rattle.wasm_soundness.proofs.Tables.{number_type}
+use Rattle.wasm_check.proofs.Rules.{operands-length}
 
 module _ {W : Type 0} (m : Module) (final : List ValType) where
   abbrev N : Next W → Type 0

@@ -48,6 +48,7 @@ use Rattle.wasm_soundness.proofs.Modules.{ModuleFits, function-there}
 use Rattle.wasm_soundness.proofs.Parts.{found-fits, value-fits, word-fits, reference-fits, copy-fits, last-fits, testing-fits, trapping-fits, indexing-fits, addressing-fits, filling-fits, copying-fits, growing-fits}
 use Rattle.wasm_soundness.proofs.Inversions.{AtPlain, at-plain, at-block, at-loop, at-if}
 use Rattle.wasm_soundness.proofs.Control.{Ready, Remains, give_back-fits, goes-store, goes, goes-locals, frame-waits, block-fits, loop-fits, br-fits, choosing-fits, called-fits, reference-called}
+use Rattle.wasm_check.proofs.Examples.{some-same}
 
 -- ---- values
 
@@ -65,9 +66,6 @@ each-part P place n xs p = each-take P n (drop place xs) (each-drop P place xs p
 
 operands-push : (ts : List ValType) (t : ValType) → operands (ts ++ t ∷ []) ≡ Of t ∷ operands ts
 operands-push ts t = ap reverse (map-append (λ t. Of t) ts (t ∷ [])) ∙ reverse-append (ofs ts) (Of t ∷ [])
-
-some-same : {A : Type 0} (x y : A) → Some x ≡ Some y → x ≡ y
-some-same x y e = cc
 
 -- the type of two values of one type
 apart-numbers : {W : Type 0} (m : Module) (a b : W) (t : Operand) → OperandIs m (I32 a) t → OperandIs m (I64 b) t → ⊥

@@ -4,6 +4,8 @@ use Rattle.std.specs.Prelude.{◌==◌, ◌&&◌, ◌||◌, slice_index}
 use Rattle.std.proofs.lemmas.Bool.Decides.{nat_tests}
 use Rattle.wasm_text.specs.Lexing.{comment_end}
 use Rattle.wasm_text.specs.Comments.{Inside, Closes, Passes, Nests, inside_text, is_mark, IsInside, ClosesComment}
+use Rattle.wasm_text.proofs.Choosing.{some_is, is_number, by_test}
+use Rattle.std.proofs.lemmas.Bool.{and_parts as both_of, or_from as none_of}
 
 -- ---- what is spelled is found
 
@@ -13,7 +15,7 @@ two_at_least Closes = omega arith
 two_at_least (Passes c rest) = omega (arith, two_at_least rest)
 two_at_least (Nests inner rest) = omega (arith, length-append (inside_text inner) (inside_text rest))
 
-first_false : (a b : Bool) → (a || b) ≡ false → a ≡ false
+pub first_false : (a b : Bool) → (a || b) ≡ false → a ≡ false
 first_false true b e = e
 first_false false b e = refl
 
@@ -73,16 +75,6 @@ pub record Found (inner at n : ℕ) (text : List ℕ) : Type 0 where
   pub closes : AllClose (suc inner) text left
   pub place : n + length left ≡ at + length text
 
-some_is : (a b : ℕ) → (let r : Option ℕ = Some a in r) ≡ Some b → a ≡ b
-some_is a b e = cc
-
-both_of : (a b : Bool) → (a && b) ≡ true → (a ≡ true) × (b ≡ true)
-both_of true b e = (refl, e)
-both_of false b e = absurd cc
-
-is_number : (a b : ℕ) → (a == b) ≡ true → a ≡ b
-is_number a b e = grind (arith, nat_tests)
-
 -- a pair of characters, by a test
 pair_is : (c d first second : ℕ) → (c == first && d == second) ≡ true → (c ≡ first) × (d ≡ second)
 pair_is c d first second e = let both = both_of (c == first) (d == second) e in (is_number c first both.0, is_number d second both.1)
@@ -120,13 +112,6 @@ passed inner at n c d rest plain found =
       closes = (Passes c i, found.closes.1, (ap (λ x. is_mark c x) (sym first) ∙ plain, found.closes.2), ap (λ t. c ∷ t) found.closes.3, found.closes.4);
       place = omega (arith, found.place);
     }
-
-none_of : (a b : Bool) → a ≡ false → b ≡ false → (a || b) ≡ false
-none_of a b e f = ap (λ x. x || b) e ∙ f
-
-by_test : {A : Type 0} (b : Bool) (x y z : A) (P : Type 0) → (b ≡ true → x ≡ z → P) → (b ≡ false → y ≡ z → P) → cond b x y ≡ z → P
-by_test true x y z P f g e = f refl e
-by_test false x y z P f g e = g refl e
 
 not_zero_suc : (k : ℕ) → (suc k == 0) ≡ false
 not_zero_suc k = grind (arith, nat_tests)

@@ -8,46 +8,9 @@ use Rattle.wasm_text.specs.Characters.{is_space, is_in_line}
 use Rattle.wasm_text.specs.Comments.{inside_text}
 use Rattle.wasm_text.specs.Lexing.{run_end, comment_end, comment_at, past_comment, gap_end}
 use Rattle.wasm_text.specs.Tokens.{AllPass, Gap, Space, Line, Block, gap_text, EndsLine, IsGap, AreGaps}
-use Rattle.wasm_text.proofs.CommentLaws.{closes_at, comment_closes}
-
-holds : {A : Type 0} (b : Bool) (x y : A) → b ≡ true → cond b x y ≡ x
-holds b x y e = ap (λ t. cond t x y) e
-
-fails : {A : Type 0} (b : Bool) (x y : A) → b ≡ false → cond b x y ≡ y
-fails b x y e = ap (λ t. cond t x y) e
-
-by_test : {A : Type 0} (b : Bool) (x y z : A) (P : Type 0) → (b ≡ true → x ≡ z → P) → (b ≡ false → y ≡ z → P) → cond b x y ≡ z → P
-by_test true x y z P f g e = f refl e
-by_test false x y z P f g e = g refl e
-
-by_bool : (b : Bool) (P : Type 0) → (b ≡ true → P) → (b ≡ false → P) → P
-by_bool true P f g = f refl
-by_bool false P f g = g refl
-
-ok_is : (a b : ℕ) → (let r : Result ℕ LexBad = Ok a in r) ≡ Ok b → a ≡ b
-ok_is a b e = cc
-
-refuses : (bad : LexBad) (b : ℕ) → (let r : Result ℕ LexBad = Err bad in r) ≡ Ok b → ⊥
-refuses bad b e = cc
-
-both_of : (a b : Bool) → (a && b) ≡ true → (a ≡ true) × (b ≡ true)
-both_of true b e = (refl, e)
-both_of false b e = absurd cc
-
-is_number : (a b : ℕ) → (a == b) ≡ true → a ≡ b
-is_number a b e = grind (arith, nat_tests)
-
-not_before : (i n : ℕ) → n ≤ i → nat_lt i n ≡ false
-not_before i n le = grind (arith, nat_tests)
-
-before : (i n : ℕ) → i < n → nat_lt i n ≡ true
-before i n lt = grind (arith, nat_tests)
-
-is_before : (a b : ℕ) → nat_lt a b ≡ true → a < b
-is_before a b e = grind (arith, nat_tests)
-
-is_not_before : (a b : ℕ) → nat_lt a b ≡ false → b ≤ a
-is_not_before a b e = grind (arith, nat_tests)
+use Rattle.wasm_text.proofs.CommentLaws.{closes_at, comment_closes, first_false as not_either}
+use Rattle.wasm_text.proofs.Choosing.{by_test, by_bool, ok_is, refuses, is_number, not_before, before, is_before, is_not_before, no_items, same_end, some_is as end_is}
+use Rattle.std.proofs.lemmas.Bool.{cond-true as holds, cond-false as fails, and_parts as both_of}
 
 -- ---- runs
 
@@ -176,10 +139,6 @@ skip_case from at n c rest lt s = record {
   stops = s.stops;
 }
 
-no_items : (xs : List ℕ) → length xs ≡ 0 → xs ≡ []
-no_items [] e = refl
-no_items (x ∷ xs) e = absurd (omega arith)
-
 pub none_skipped : (from at n : ℕ) (text : List ℕ) → from ≤ at → (s : GapRest from at n text) → text ≡ flat_map gap_text s.gaps ++ s.left
 none_skipped from at n text le s = s.is ∙ ap (λ l. l ++ (flat_map gap_text s.gaps ++ s.left)) (no_items s.skipped (omega (arith, s.skips)))
 
@@ -206,16 +165,6 @@ stop_case from at n text le found e = record {
   place = omega arith;
   stops = ap (λ k. gap_end 0 k text) (sym e) ∙ sym (reached from at text le) ∙ found;
 }
-
--- two ends of one list, after as much
-same_end : (a b x y : List ℕ) → a ++ x ≡ b ++ y → length a ≡ length b → x ≡ y
-same_end [] [] x y e len = e
-same_end [] (c ∷ b) x y e len = absurd (omega arith)
-same_end (c ∷ a) [] x y e len = absurd (omega arith)
-same_end (c ∷ a) (d ∷ b) x y e len = same_end a b x y (tail_of c d (a ++ x) (b ++ y) e) (omega arith)
-  where
-    tail_of : (c d : ℕ) (u v : List ℕ) → c ∷ u ≡ d ∷ v → u ≡ v
-    tail_of c d u v e = cc
 
 -- a comment comes first, of this text after its first character, and then what was found from its end on
 comment_case : (from at n end : ℕ) (gap : Gap) (c : ℕ) (text after rest : List ℕ) → from ≤ at → gap_text gap ≡ c ∷ text → rest ≡ text ++ after → IsGap gap after → end ≡ at + 1 + length text
@@ -256,9 +205,6 @@ block_case from at n end c rest le first second is s =
 
 some_is : (a b : Option ℕ) → (let r : Option (Option ℕ) = Some a in r) ≡ Some b → a ≡ b
 some_is a b e = cc
-
-end_is : (a b : ℕ) → (let r : Option ℕ = Some a in r) ≡ Some b → a ≡ b
-end_is a b e = cc
 
 none_some : (a : Option ℕ) → (let r : Option (Option ℕ) = None in r) ≡ Some a → ⊥
 none_some a e = cc
@@ -311,10 +257,6 @@ passes_case : (from at n c : ℕ) (rest : List ℕ) → (nat_lt at from || is_sp
 passes_case from at n c rest e s =
     by_bool (nat_lt at from) (GapRest from at n (c ∷ rest)) (λ lt. skip_case from at n c rest (is_before at from lt) s)
     (λ ge. space_case from at n c rest (is_not_before at from ge) (ap (λ b. b || is_space c) (sym ge) ∙ e) s)
-
-not_either : (a b : Bool) → (a || b) ≡ false → a ≡ false
-not_either true b e = absurd cc
-not_either false b e = refl
 
 -- nothing is skipped past the end of a text
 end_case : (from at n : ℕ) → at ≡ n → from ≤ at → GapRest from at n []

@@ -1,6 +1,13 @@
+pub mod Choosing
 pub mod CommentLaws
+pub mod FieldMoves
+pub mod FormLaws
 pub mod GapLaws
+pub mod InstructionMoves
+pub mod NameLaws
 pub mod NextLaws
 pub mod StringFound
 pub mod StringLaws
+pub mod TextLaws
 pub mod TokenLaws
+pub mod ValueMoves

@@ -1,7 +1,7 @@
 -- The next token is the one that the grammar has next.
 use Rattle.std.proofs.Common.{◌≡◌, ◌≢◌, ℕ, zero, suc, ◌+◌, ◌≤◌, Bool, true, false, cond, List, [], ◌∷◌, ◌++◌, length, drop, flat_map, Option, Some, None, Result, Ok, Err, refl, sym, ap, subst, ◌∙◌, arith, length-append, append_assoc}
 use Rattle.std.specs.Prelude.{◌==◌, ◌&&◌, ◌||◌, slice_index}
-use Rattle.std.proofs.lemmas.Bool.{ne_eqb}
+use Rattle.std.proofs.lemmas.Bool.{ne_eqb, cond-true as holds, cond-false as fails, or_from as or_of}
 use Rattle.std.proofs.lemmas.Bool.Decides.{nat_tests}
 use Rattle.wasm_text.specs.declared.tokens.Token.{Token}
 use Rattle.wasm_text.specs.declared.tokens.TokenKind.{TokenKind}
@@ -16,26 +16,7 @@ use Rattle.wasm_text.proofs.TokenLaws.{gap_within}
 use Rattle.wasm_text.proofs.GapLaws.{Stops, run_spelled, run_found, gap_step, from_0, gaps_spelled, none_skipped, gap_found}
 use Rattle.wasm_text.proofs.StringLaws.{closes_string}
 use Rattle.wasm_text.proofs.StringFound.{string_closes}
-
-by_test : {A : Type 0} (b : Bool) (x y z : A) (P : Type 0) → (b ≡ true → x ≡ z → P) → (b ≡ false → y ≡ z → P) → cond b x y ≡ z → P
-by_test true x y z P f g e = f refl e
-by_test false x y z P f g e = g refl e
-
-holds : {A : Type 0} (b : Bool) (x y : A) → b ≡ true → cond b x y ≡ x
-holds b x y e = ap (λ t. cond t x y) e
-
-fails : {A : Type 0} (b : Bool) (x y : A) → b ≡ false → cond b x y ≡ y
-fails b x y e = ap (λ t. cond t x y) e
-
-is_number : (a b : ℕ) → (a == b) ≡ true → a ≡ b
-is_number a b e = grind (arith, nat_tests)
-
-by_bool : (b : Bool) (P : Type 0) → (b ≡ true → P) → (b ≡ false → P) → P
-by_bool true P f g = f refl
-by_bool false P f g = g refl
-
-refuses : (bad : LexBad) (b : ℕ) → (let r : Result ℕ LexBad = Err bad in r) ≡ Ok b → ⊥
-refuses bad b e = cc
+use Rattle.wasm_text.proofs.Choosing.{by_test, is_number, by_bool, refuses, no_items}
 
 -- ---- what is found
 
@@ -141,10 +122,6 @@ drop_seam : (u w : List ℕ) → drop (length u) (u ++ w) ≡ w
 drop_seam [] w = refl
 drop_seam (c ∷ u) w = drop_seam u w
 
-no_items : (xs : List ℕ) → length xs ≡ 0 → xs ≡ []
-no_items [] e = refl
-no_items (x ∷ xs) e = absurd (omega arith)
-
 drop_after : (at : ℕ) (source u w : List ℕ) → drop at source ≡ u ++ w → drop (at + length u) source ≡ w
 drop_after zero source u w e =
     (let same : 0 + length u ≡ length u = omega arith in ap (λ k. drop k source) same) ∙ ap (λ l. drop (length u) l) e ∙ drop_seam u w
@@ -238,9 +215,6 @@ word_is_not c k word not =
   where
     both_ways : (b : Bool) → b ≡ true → b ≡ false → ⊥
     both_ways b e f = cc
-
-or_of : (a b : Bool) → a ≡ false → b ≡ false → (a || b) ≡ false
-or_of a b e f = ap (λ x. x || b) e ∙ f
 
 word_no_space : (c : ℕ) → is_word_char c ≡ true → is_space c ≡ false
 word_no_space c word =

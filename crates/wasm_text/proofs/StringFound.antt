@@ -7,29 +7,8 @@ use Rattle.wasm_text.specs.declared.tokens.LexReason.TheVariants.{Char, OpenStri
 use Rattle.wasm_text.specs.Characters.{is_string_char, is_short_escape, is_hex, hex_value, is_scalar}
 use Rattle.wasm_text.specs.Lexing.{trouble, hex_pair_end, number_end, braces_end, escape_end, past_escape, string_end}
 use Rattle.wasm_text.specs.Strings.{Piece, Itself, Short, Byte, Number, next_digit, piece_text, number_from, AreHex, IsPiece, ArePieces, ClosesString}
-
-by_test : {A : Type 0} (b : Bool) (x y z : A) (P : Type 0) → (b ≡ true → x ≡ z → P) → (b ≡ false → y ≡ z → P) → cond b x y ≡ z → P
-by_test true x y z P f g e = f refl e
-by_test false x y z P f g e = g refl e
-
-ok_is : (a b : ℕ) → (let r : Result ℕ LexBad = Ok a in r) ≡ Ok b → a ≡ b
-ok_is a b e = cc
-
-refuses : (bad : LexBad) (b : ℕ) → (let r : Result ℕ LexBad = Err bad in r) ≡ Ok b → ⊥
-refuses bad b e = cc
-
-both_of : (a b : Bool) → (a && b) ≡ true → (a ≡ true) × (b ≡ true)
-both_of true b e = (refl, e)
-both_of false b e = absurd cc
-
-is_number : (a b : ℕ) → (a == b) ≡ true → a ≡ b
-is_number a b e = grind (arith, nat_tests)
-
-is_before : (a b : ℕ) → nat_lt a b ≡ true → a < b
-is_before a b e = grind (arith, nat_tests)
-
-is_not_before : (a b : ℕ) → nat_lt a b ≡ false → b ≤ a
-is_not_before a b e = grind (arith, nat_tests)
+use Rattle.wasm_text.proofs.Choosing.{by_test, ok_is, refuses, is_number, is_before, is_not_before, no_items, same_end}
+use Rattle.std.proofs.lemmas.Bool.{and_parts as both_of}
 
 -- ---- a number
 
@@ -169,10 +148,6 @@ skip_case from at n c rest lt s = record {
   place = omega (arith, s.place);
 }
 
-no_items : (xs : List ℕ) → length xs ≡ 0 → xs ≡ []
-no_items [] e = refl
-no_items (x ∷ xs) e = absurd (omega arith)
-
 -- nothing is skipped
 none_skipped : (from at n : ℕ) (text : List ℕ) → from ≤ at → (s : StringRest from at n text) → text ≡ flat_map piece_text s.pieces ++ 0x22 ∷ s.left
 none_skipped from at n text le s =
@@ -191,16 +166,6 @@ itself_case from at n c rest le good s = record {
   skips = omega arith;
   place = omega (arith, s.place);
 }
-
--- two ends of one list, after as much
-same_end : (a b x y : List ℕ) → a ++ x ≡ b ++ y → length a ≡ length b → x ≡ y
-same_end [] [] x y e len = e
-same_end [] (c ∷ b) x y e len = absurd (omega arith)
-same_end (c ∷ a) [] x y e len = absurd (omega arith)
-same_end (c ∷ a) (d ∷ b) x y e len = same_end a b x y (tail_of c d (a ++ x) (b ++ y) e) (omega arith)
-  where
-    tail_of : (c d : ℕ) (u v : List ℕ) → c ∷ u ≡ d ∷ v → u ≡ v
-    tail_of c d u v e = cc
 
 escape_case : (from at n next : ℕ) (rest : List ℕ) → from ≤ at → EscapeRest at next rest → StringRest next (at + 1) n rest → StringRest from at n (0x5C ∷ rest)
 escape_case from at n next rest le escape s =

@@ -7,24 +7,10 @@ use Rattle.wasm_text.specs.declared.tokens.LexReason.TheVariants.{Char, BadEscap
 use Rattle.wasm_text.specs.Characters.{is_string_char, is_short_escape, is_hex, hex_value, is_scalar}
 use Rattle.wasm_text.specs.Lexing.{trouble, hex_pair_end, number_end, braces_end, escape_end, past_escape, string_end}
 use Rattle.wasm_text.specs.Strings.{Piece, Itself, Short, Byte, Number, next_digit, piece_text, number_from, AreHex, IsPiece, ArePieces, ClosesString}
+use Rattle.wasm_text.proofs.Choosing.{by_test, not_before, before}
+use Rattle.std.proofs.lemmas.Bool.{cond-true as holds, cond-false as fails}
 
 -- ---- tests
-
-holds : {A : Type 0} (b : Bool) (x y : A) → b ≡ true → cond b x y ≡ x
-holds b x y e = ap (λ t. cond t x y) e
-
-fails : {A : Type 0} (b : Bool) (x y : A) → b ≡ false → cond b x y ≡ y
-fails b x y e = ap (λ t. cond t x y) e
-
-by_test : {A : Type 0} (b : Bool) (x y z : A) (P : Type 0) → (b ≡ true → x ≡ z → P) → (b ≡ false → y ≡ z → P) → cond b x y ≡ z → P
-by_test true x y z P f g e = f refl e
-by_test false x y z P f g e = g refl e
-
-not_before : (i n : ℕ) → n ≤ i → nat_lt i n ≡ false
-not_before i n le = grind (arith, nat_tests)
-
-before : (i n : ℕ) → i < n → nat_lt i n ≡ true
-before i n lt = grind (arith, nat_tests)
 
 hex_not_short : (c : ℕ) → is_hex c ≡ true → is_short_escape c ≡ false
 hex_not_short c hex = grind (arith, nat_tests)

@@ -8,6 +8,7 @@ use Rattle.wasm_text.specs.declared.tokens.LexBad.{LexBad}
 use Rattle.wasm_text.specs.declared.tokens.LexReason.TheVariants.{Char}
 use Rattle.wasm_text.specs.Characters.{is_space, is_word_char, is_string_char}
 use Rattle.wasm_text.specs.Lexing.{trouble, run_end, comment_at, past_comment, gap_end, escape_end, past_escape, string_end, token, string_token, token_at, past_gap, next_token, TokensFrom}
+use Rattle.wasm_text.proofs.Choosing.{ok_is}
 
 -- ---- where forms end
 
@@ -22,9 +23,6 @@ pub record Past (at n : ℕ) (text : List ℕ) : Type 0 where
 by_test : {A : Type 0} (b : Bool) (x y z : A) (P : Type 0) → (x ≡ z → P) → (y ≡ z → P) → cond b x y ≡ z → P
 by_test true x y z P f g e = f e
 by_test false x y z P f g e = g e
-
-ok_is : (a b : ℕ) → (let r : Result ℕ LexBad = Ok a in r) ≡ Ok b → a ≡ b
-ok_is a b e = cc
 
 longer : (at n c : ℕ) (rest : List ℕ) → Within (at + 1) n rest → Within at n (c ∷ rest)
 longer at n c rest w = record { start = omega arith; end = omega arith }

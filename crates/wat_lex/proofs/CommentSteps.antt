@@ -7,6 +7,8 @@ use Rattle.std.proofs.Math.ListN.{drop_of_length-le}
 use Rattle.wasm_text.specs.declared.tokens.LexBad.{LexBad}
 use Rattle.wasm_text.specs.Characters.{is_space}
 use Rattle.wasm_text.specs.Lexing.{comment_end, comment_at, past_comment, gap_end}
+use Rattle.wasm_text.proofs.Choosing.{before, not_before as not_before_any}
+use Rattle.std.proofs.lemmas.Bool.{or_left as or_true}
 
 -- ---- block comments
 
@@ -48,19 +50,9 @@ comment_over s inner i le = short (drop i s) (omega (arith, length-drop i s))
 not_before : (i : ℕ) → nat_lt i 0 ≡ false
 not_before i = grind (arith, nat_tests)
 
-before : (i n : ℕ) → i < n → nat_lt i n ≡ true
-before i n lt = grind (arith, nat_tests)
-
-not_before_any : (i n : ℕ) → n ≤ i → nat_lt i n ≡ false
-not_before_any i n le = grind (arith, nat_tests)
-
 or_of : (a b : Bool) → a ≡ false → (a || b) ≡ b
 or_of true b e = absurd cc
 or_of false b e = refl
-
-or_true : (a b : Bool) → a ≡ true → (a || b) ≡ true
-or_true true b e = refl
-or_true false b e = absurd cc
 
 abbrev gap_step : ℕ → List ℕ → ℕ → Bool → Result ℕ LexBad
 gap_step from s i passes =

@@ -9,6 +9,7 @@ use Rattle.wasm_text.specs.declared.tokens.LexReason.TheVariants.{Char, OpenStri
 use Rattle.wasm_text.specs.Characters.{is_string_char, is_hex, hex_value, is_scalar}
 use Rattle.wasm_text.specs.Lexing.{trouble, number_end, escape_end, past_escape, string_end}
 use Rattle.wat_lex.specs.code.Numbers.{Alike}
+use Rattle.wasm_text.proofs.Choosing.{before, not_before as not_before_any}
 
 -- ---- a character's number
 
@@ -44,12 +45,6 @@ pub number_over : (s : List ℕ) (quote slash n i : ℕ) (digit : Bool) → leng
 number_over s quote slash n i digit le = ap (λ l. number_end quote slash i n digit l) (drop_of_length-le s le)
 
 -- ---- strings
-
-not_before_any : (i n : ℕ) → n ≤ i → nat_lt i n ≡ false
-not_before_any i n le = grind (arith, nat_tests)
-
-before : (i n : ℕ) → i < n → nat_lt i n ≡ true
-before i n lt = grind (arith, nat_tests)
 
 abbrev string_step : ℕ → ℕ → ℕ → Bool → ℕ → List ℕ → Result ℕ LexBad
 string_step quote from i passes c rest =

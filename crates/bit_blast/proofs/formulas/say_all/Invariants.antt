@@ -1,7 +1,8 @@
 use Rattle.std.proofs.Common.{◌≡◌, ◌++◌, take}
 use Rattle.std.specs.List.{flat_map}
 use Rattle.bit_blast.specs.Formulas.{condition_clauses}
-use Rattle.bit_blast.specs.Walks.{known_of, conditions_of}
+use Rattle.bit_blast.specs.GraphConditions.{conditions_of}
+use Rattle.bit_blast.specs.code.Tasks.{known_of}
 use Rattle.bit_blast.proofs.formulas.say_all.Given as goal
 
 abbrev pub invariant-loop-cond : goal.invariant-loop-cond

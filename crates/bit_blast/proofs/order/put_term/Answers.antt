@@ -1,6 +1,6 @@
 use Rattle.std.proofs.Common.{subst, All}
 use Rattle.std.proofs.lemmas.List.Elements.{All-tail}
-use Rattle.bit_blast.specs.Walks.{HoldsTask}
+use Rattle.bit_blast.specs.code.Tasks.{HoldsTask}
 use Rattle.bit_blast.proofs.order.put_term.Goals as goal
 
 pub carry_out-requires-clause-tasks : goal.carry_out-requires-clause-tasks

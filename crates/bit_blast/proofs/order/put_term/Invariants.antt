@@ -2,7 +2,8 @@ use Rattle.std.proofs.Common.{◌≡◌, All}
 use Rattle.bv_terms.specs.declared.words.Word.TheVariants.{Term as Numbered}
 use Rattle.bv_terms.specs.Graphs.{Holds}
 use Rattle.bit_blast.specs.Formulas.{with_terms}
-use Rattle.bit_blast.specs.Walks.{term_at, terms_at, after_tasks, HoldsTask, work_in}
+use Rattle.bit_blast.specs.GraphConditions.{term_at, terms_at}
+use Rattle.bit_blast.specs.code.Tasks.{after_tasks, HoldsTask, work_in}
 use Rattle.bit_blast.proofs.order.put_term.Given as goal
 
 abbrev pub invariant-loop-task : goal.invariant-loop-task

@@ -2,7 +2,7 @@ use Rattle.std.proofs.Common.{◌≡◌, [], All, drop}
 use Rattle.bv_terms.specs.declared.words.Word.TheVariants.{Term as Numbered}
 use Rattle.bv_terms.specs.Graphs.{Holds}
 use Rattle.bit_blast.specs.Formulas.{with_conditions}
-use Rattle.bit_blast.specs.Walks.{terms_at, conditions_of}
+use Rattle.bit_blast.specs.GraphConditions.{terms_at, conditions_of}
 use Rattle.bit_blast.proofs.order.terms_in_order.Given as goal
 
 abbrev pub invariant-loop-cond : goal.invariant-loop-cond

@@ -3,7 +3,7 @@ use Rattle.std.proofs.lemmas.List.{length-append}
 use Rattle.bv_terms.specs.Graphs.{form_term}
 use Rattle.bit_blast.specs.Blocks.{Builds}
 use Rattle.bit_blast.specs.Formulas.{term_wires}
-use Rattle.bit_blast.specs.Walks.{known_of}
+use Rattle.bit_blast.specs.code.Tasks.{known_of}
 use Rattle.bit_blast.proofs.TermLemmas.{build-next}
 use Rattle.bit_blast.proofs.terms.build_terms.Goals as goal
 

@@ -1,6 +1,7 @@
 use Rattle.std.proofs.Common.{◌≡◌, [], drop, length}
 use Rattle.bit_blast.specs.Formulas.{build_terms}
-use Rattle.bit_blast.specs.Walks.{known_of, terms_at}
+use Rattle.bit_blast.specs.GraphConditions.{terms_at}
+use Rattle.bit_blast.specs.code.Tasks.{known_of}
 use Rattle.bit_blast.proofs.terms.build_terms.Given as goal
 
 abbrev pub invariant-loop-i : goal.invariant-loop-i

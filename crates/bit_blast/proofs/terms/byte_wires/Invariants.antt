@@ -2,7 +2,7 @@ use Rattle.std.proofs.Common.{◌≡◌, ◌++◌, map, drop}
 use Rattle.bv_terms.specs.Terms.{bytes_from}
 use Rattle.bv_terms.specs.Graphs.{term_of}
 use Rattle.bit_blast.specs.Formulas.{byte_wires}
-use Rattle.bit_blast.specs.Walks.{known_of}
+use Rattle.bit_blast.specs.code.Tasks.{known_of}
 use Rattle.bit_blast.proofs.terms.byte_wires.Given as goal
 
 abbrev pub invariant-loop-byte : goal.invariant-loop-byte

@@ -1,4 +1,4 @@
-use Rattle.bit_blast.specs.Walks.{known_of}
+use Rattle.bit_blast.specs.code.Tasks.{known_of}
 use Rattle.bit_blast.proofs.TermLemmas.{operand-copied}
 use Rattle.bit_blast.proofs.terms.operand.Goals as goal
 

@@ -1,7 +1,7 @@
 use Rattle.std.proofs.Common.{ap, ◌∙◌}
 use Rattle.bit_blast.specs.Gates.{false_wire}
 use Rattle.bit_blast.specs.Operators.{fitted}
-use Rattle.bit_blast.specs.Walks.{known_of}
+use Rattle.bit_blast.specs.code.Tasks.{known_of}
 use Rattle.bit_blast.proofs.TermLemmas.{join-built}
 use Rattle.bit_blast.proofs.terms.term_wires.Goals as goal
 

@@ -1,5 +1,5 @@
 use Rattle.std.proofs.Common.{ap, sym, ◌∙◌}
-use Rattle.bit_blast.specs.Walks.{wires_at}
+use Rattle.bit_blast.specs.code.Tasks.{wires_at}
 use Rattle.bit_blast.proofs.TermLemmas.{known-place, found, past}
 use Rattle.bit_blast.proofs.terms.wires_of.Goals as goal
 

@@ -1,6 +1,6 @@
 use Rattle.std.proofs.Common.{◌≡◌, map}
 use Rattle.std.specs.Arc.{arc_value}
-use Rattle.bv_terms.specs.Index.{all_forms}
+use Rattle.bv_terms.specs.code.Index.{all_forms}
 use Rattle.bv_terms.proofs.merging.absorbed.Given as goal
 
 abbrev pub invariant-loop-turn : goal.invariant-loop-turn

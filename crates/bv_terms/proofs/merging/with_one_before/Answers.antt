@@ -1,7 +1,7 @@
 use Rattle.std.proofs.Common.{◌≡◌, suc, ◌-◌, ◌<◌, ◌++◌, List, length, map, take, ap, ◌∙◌, arith}
 use Rattle.std.specs.Arc.{arc_value}
 use Rattle.bv_terms.specs.declared.words.Form.{Form}
-use Rattle.bv_terms.specs.Index.{all_forms}
+use Rattle.bv_terms.specs.code.Index.{all_forms}
 use Rattle.bv_terms.proofs.ListLemmas.{get-read}
 use Rattle.bv_terms.proofs.MergeLemmas.{some_more, last-joined}
 use Rattle.bv_terms.proofs.merging.with_one_before.Goals as goal

@@ -3,7 +3,7 @@ use Rattle.std.specs.Prelude.{Ok}
 use Rattle.int_ops.specs.Operators.{operand_bits, total}
 use Rattle.bv_terms.specs.Terms.{HasWidth, width_of, value_of}
 use Rattle.bv_terms.specs.Graphs.{OperandsBelow, form_term, terms_of}
-use Rattle.bv_terms.specs.Walks.{IsKnown, known_value, LooksAll, Evaluates}
+use Rattle.bv_terms.specs.code.KnownValues.{IsKnown, known_value, LooksAll, Evaluates}
 use Rattle.bv_terms.proofs.FitLemmas.{join-count, join-each}
 use Rattle.bv_terms.proofs.ValueLemmas.{looked, operand-fits, bytes-fit, looked-all}
 use Rattle.bv_terms.proofs.values.evaluated.Goals as goal

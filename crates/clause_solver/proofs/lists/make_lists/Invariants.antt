@@ -1,7 +1,7 @@
 use Rattle.std.proofs.Common.{◌≡◌, ◌-◌, ◌+◌, ℕ, length, map}
 use Rattle.std.specs.Prelude.{Vec}
 use Rattle.std.specs.Global.{Global}
-use Rattle.clause_solver.specs.Watching.{listed}
+use Rattle.clause_solver.specs.code.Watching.{listed}
 use Rattle.clause_solver.proofs.lists.make_lists.Given as goal
 
 abbrev pub invariant-loop-alloc : goal.invariant-loop-alloc

@@ -1,6 +1,6 @@
 use Rattle.std.proofs.Common.{sym, ap, ◌∙◌, arith}
 use Rattle.refute_check.specs.Machine.{status}
-use Rattle.clause_solver.specs.Watching.{status_at}
+use Rattle.clause_solver.specs.code.Watching.{status_at}
 use Rattle.clause_solver.proofs.Watching.{status_past}
 use Rattle.clause_solver.proofs.rules.numbered_status.Goals as goal
 

@@ -1,5 +1,5 @@
 use Rattle.std.proofs.Common.{◌-◌, length, take}
-use Rattle.clause_solver.specs.Watching.{AllSet}
+use Rattle.clause_solver.specs.code.Watching.{AllSet}
 use Rattle.clause_solver.proofs.rules.unset.Given as goal
 
 abbrev pub invariant-loop-ahead : goal.invariant-loop-ahead

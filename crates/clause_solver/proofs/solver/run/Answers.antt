@@ -1,6 +1,6 @@
 use Rattle.std.proofs.Common.{◌≡◌, sym, ap, ◌∙◌, subst}
 use Rattle.refute_check.specs.Machine.{turn, start, On, Model, Refuted, Spent}
-use Rattle.clause_solver.specs.Turned.{seen, IsWatched}
+use Rattle.clause_solver.specs.code.Turned.{seen, IsWatched}
 use Rattle.clause_solver.proofs.Running.{run_start, run_comes, run_on, run_falls}
 use Rattle.clause_solver.proofs.solver.run.Goals as goal
 

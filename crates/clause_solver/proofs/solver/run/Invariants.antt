@@ -1,5 +1,5 @@
 use Rattle.refute_check.proofs.Ends.{weight}
-use Rattle.clause_solver.specs.Turned.{seen, IsWatched}
+use Rattle.clause_solver.specs.code.Turned.{seen, IsWatched}
 use Rattle.clause_solver.proofs.Running.{HasRun}
 use Rattle.clause_solver.proofs.solver.run.Given as goal
 

@@ -1,4 +1,4 @@
-use Rattle.clause_solver.specs.Renewing.{IsSound}
+use Rattle.clause_solver.specs.code.Renewing.{IsSound}
 use Rattle.clause_solver.proofs.watches.watches_of.Given as goal
 
 abbrev pub invariant-loop-number : goal.invariant-loop-number

@@ -1,5 +1,5 @@
 use Rattle.std.proofs.Common.{Some, length-take, arith}
-use Rattle.bit_blast.specs.Walks.{conditions_of, term_at}
+use Rattle.bit_blast.specs.GraphConditions.{conditions_of, term_at}
 use Rattle.path_ask.proofs.VerdictLemmas.{takes, room, not_refuted, decided_within, least_value_given, pick_is, enough_decided}
 use Rattle.path_ask.proofs.questions.least_value.Goals as goal
 

@@ -1,5 +1,5 @@
 use Rattle.std.proofs.Common.{None}
-use Rattle.bit_blast.specs.Walks.{conditions_of}
+use Rattle.bit_blast.specs.GraphConditions.{conditions_of}
 use Rattle.path_ask.proofs.VerdictLemmas.{takes, room, none_do, not_bad, least_is}
 use Rattle.path_ask.proofs.questions.other_side.Goals as goal
 

@@ -1,7 +1,7 @@
 use Rattle.std.proofs.Common.{◌≡◌, ◌+◌, ◌++◌, ℕ, inl, refl, sym, subst, Err, Result}
 use Rattle.std.specs.Prelude.{Some, None}
 use Rattle.refute_check.specs.Logs.{IsRefused, result_of}
-use Rattle.refute_check.specs.Alike.{BothAlike}
+use Rattle.refute_check.specs.code.Alike.{BothAlike}
 use Rattle.refute_check.specs.declared.checker.AcceptBad.{AcceptBad}
 use Rattle.refute_check.specs.declared.checker.AcceptBad.TheVariants.{Bad}
 use Rattle.refute_check.proofs.Checked.{HasChecked, checked_fails, checked_more}

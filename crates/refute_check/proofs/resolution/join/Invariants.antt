@@ -1,6 +1,6 @@
 use Rattle.std.proofs.Common.{take}
 use Rattle.refute_check.specs.Resolution.{joined}
-use Rattle.refute_check.specs.Alike.{AreAlike}
+use Rattle.refute_check.specs.code.Alike.{AreAlike}
 use Rattle.refute_check.proofs.resolution.join.Given as goal
 
 abbrev pub invariant-loop-found : goal.invariant-loop-found

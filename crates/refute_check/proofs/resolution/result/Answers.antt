@@ -1,5 +1,5 @@
 use Rattle.std.proofs.Common.{◌++◌, get_or, length, ap, sym, refl, subst, arith}
-use Rattle.refute_check.specs.Alike.{BothAlike}
+use Rattle.refute_check.specs.code.Alike.{BothAlike}
 use Rattle.std.specs.Prelude.{Some}
 use Rattle.refute_check.specs.Logs.{result_of}
 use Rattle.refute_check.proofs.Chains.{started, goes_on, ended}

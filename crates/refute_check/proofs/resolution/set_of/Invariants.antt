@@ -1,5 +1,5 @@
 use Rattle.std.proofs.Common.{take}
-use Rattle.refute_check.specs.Alike.{AreAlike}
+use Rattle.refute_check.specs.code.Alike.{AreAlike}
 use Rattle.refute_check.proofs.resolution.set_of.Given as goal
 
 abbrev pub invariant-loop-literal : goal.invariant-loop-literal

@@ -1,7 +1,7 @@
 use Rattle.std.proofs.Common.{◌≡◌, ◌+◌, List, [], ◌∷◌, ◌++◌, Bool, length, ap, sym, subst, ◌∙◌, arith}
 use Rattle.std.specs.Prelude.{IsTrue}
 use Rattle.std.proofs.lemmas.List.{length-append}
-use Rattle.term_rows.specs.Desks.{HaveSymbols, IsOver}
+use Rattle.term_rows.specs.Sessions.{HaveSymbols, IsOver}
 use Rattle.term_rows.proofs.QuestionLemmas.{have-none, have-more}
 use Rattle.term_rows.proofs.drawn.flags_of.Goals as goal
 

@@ -1,5 +1,5 @@
 use Rattle.std.proofs.Common.{◌≡◌, length}
-use Rattle.term_rows.specs.Desks.{HaveSymbols}
+use Rattle.term_rows.specs.Sessions.{HaveSymbols}
 use Rattle.term_rows.proofs.drawn.flags_of.Given as goal
 
 abbrev pub invariant-loop-place : goal.invariant-loop-place

@@ -1,4 +1,4 @@
-use Rattle.bit_blast.specs.Walks.{conditions_of, first_of}
+use Rattle.bit_blast.specs.GraphConditions.{conditions_of, first_of}
 use Rattle.path_ask.proofs.VerdictLemmas.{takes}
 use Rattle.term_rows.proofs.QuestionLemmas.{conds_proper, can_be_least}
 use Rattle.term_rows.proofs.questions.refuting_log.Goals as goal

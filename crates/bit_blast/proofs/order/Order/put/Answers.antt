@@ -1,7 +1,7 @@
 use Rattle.std.proofs.Common.{◌≡◌, Some, None, ap, sym, ◌∙◌, subst, length, cond, ℕ, arith, false}
 use Rattle.std.specs.Prelude.{nat_eq, is_some}
 use Rattle.std.specs.HashMap.{get, Updates}
-use Rattle.bit_blast.specs.Walks.{IsPlaced, place_of}
+use Rattle.bit_blast.specs.code.Tasks.{IsPlaced, place_of}
 use Rattle.bit_blast.proofs.WalkLemmas.{placed-last, where_ok, none_where}
 use Rattle.bit_blast.proofs.order.Order.put.Goals as goal
 

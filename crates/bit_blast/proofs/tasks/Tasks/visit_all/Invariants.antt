@@ -1,5 +1,5 @@
 use Rattle.std.proofs.Common.{◌≡◌, ◌≤◌, ◌++◌, drop, length}
-use Rattle.bit_blast.specs.Walks.{visits}
+use Rattle.bit_blast.specs.code.Tasks.{visits}
 use Rattle.bit_blast.proofs.tasks.Tasks.visit_all.Given as goal
 
 abbrev pub invariant-loop-left : goal.invariant-loop-left

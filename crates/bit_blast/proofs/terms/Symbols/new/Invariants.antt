@@ -1,6 +1,6 @@
 use Rattle.std.proofs.Common.{◌≡◌, ◌≤◌, ◌^◌, ◌++◌, drop}
 use Rattle.bit_blast.specs.Formulas.{symbols_end}
-use Rattle.bit_blast.specs.Walks.{symbol_firsts}
+use Rattle.bit_blast.specs.code.Tasks.{symbol_firsts}
 use Rattle.bit_blast.proofs.terms.Symbols.new.Given as goal
 
 abbrev pub invariant-loop-wide : goal.invariant-loop-wide

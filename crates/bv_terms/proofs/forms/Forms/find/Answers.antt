@@ -2,7 +2,7 @@ use Rattle.std.proofs.Common.{◌≡◌, ℕ, ◌+◌, ◌++◌, List, Some, len
 use Rattle.std.specs.Prelude.{slice_get}
 use Rattle.std.specs.Arc.{arc_value}
 use Rattle.bv_terms.specs.declared.words.Form.{Form}
-use Rattle.bv_terms.specs.Index.{all_forms, form_of}
+use Rattle.bv_terms.specs.code.Index.{all_forms, form_of}
 use Rattle.bv_terms.proofs.ListLemmas.{get-read}
 use Rattle.bv_terms.proofs.IndexLemmas.{Sought, sought-all, sought-next, sought-found, sought-none, next-segment, no-segment, within, fits-next}
 use Rattle.bv_terms.proofs.forms.Forms.find.Goals as goal

@@ -1,6 +1,6 @@
 use Rattle.std.proofs.Common.{map, drop}
 use Rattle.std.specs.Arc.{arc_value}
-use Rattle.bv_terms.specs.Index.{all_forms, form_of}
+use Rattle.bv_terms.specs.code.Index.{all_forms, form_of}
 use Rattle.bv_terms.proofs.IndexLemmas.{Sought}
 use Rattle.bv_terms.proofs.forms.Forms.find.Given as goal
 

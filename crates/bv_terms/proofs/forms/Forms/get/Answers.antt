@@ -2,7 +2,7 @@ use Rattle.std.proofs.Common.{◌≡◌, ℕ, ◌+◌, ◌-◌, ◌<◌, ◌≤�
 use Rattle.std.specs.Prelude.{slice_get}
 use Rattle.std.specs.Arc.{arc_value}
 use Rattle.bv_terms.specs.declared.words.Form.{Form}
-use Rattle.bv_terms.specs.Index.{all_forms}
+use Rattle.bv_terms.specs.code.Index.{all_forms}
 use Rattle.bv_terms.proofs.ListLemmas.{get-read}
 use Rattle.bv_terms.proofs.IndexLemmas.{all-apart, length-all, get-past, get-before, next-segment, no-segment, not_there}
 use Rattle.bv_terms.proofs.forms.Forms.get.Goals as goal

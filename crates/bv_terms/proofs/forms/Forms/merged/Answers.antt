@@ -1,7 +1,7 @@
 use Rattle.std.proofs.Common.{◌≡◌, List, length, map, ap, arith}
 use Rattle.std.specs.Arc.{arc_value}
 use Rattle.bv_terms.specs.declared.words.Form.{Form}
-use Rattle.bv_terms.specs.Index.{all_forms}
+use Rattle.bv_terms.specs.code.Index.{all_forms}
 use Rattle.bv_terms.proofs.IndexLemmas.{length-all}
 use Rattle.bv_terms.proofs.forms.Forms.merged.Goals as goal
 

@@ -2,7 +2,7 @@ use Rattle.std.proofs.Common.{◌≡◌, ℕ, ◌+◌, ◌++◌, List, [], ◌�
 use Rattle.std.specs.Prelude.{slice_get}
 use Rattle.std.specs.Arc.{arc_value}
 use Rattle.bv_terms.specs.declared.words.Form.{Form}
-use Rattle.bv_terms.specs.Index.{all_forms}
+use Rattle.bv_terms.specs.code.Index.{all_forms}
 use Rattle.bv_terms.proofs.IndexLemmas.{all-apart, all-push, length-all, behind, on_ok, length-after}
 use Rattle.bv_terms.proofs.forms.Forms.push.Goals as goal
 

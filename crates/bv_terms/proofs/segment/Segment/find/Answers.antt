@@ -1,7 +1,7 @@
 use Rattle.std.proofs.Common.{◌≡◌, ◌∙◌, ℕ, List, Some, subst}
 use Rattle.std.specs.Prelude.{slice_get, IfSome, IfNone}
 use Rattle.bv_terms.specs.declared.words.Form.{Form}
-use Rattle.bv_terms.specs.Index.{form_of}
+use Rattle.bv_terms.specs.code.Index.{form_of}
 use Rattle.bv_terms.proofs.IndexLemmas.{found-at, absent-at}
 use Rattle.bv_terms.proofs.segment.Segment.find.Goals as goal
 

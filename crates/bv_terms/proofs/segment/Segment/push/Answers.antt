@@ -4,7 +4,7 @@ use Rattle.std.specs.declared.cmp.Reverse.{Reverse}
 use Rattle.std.specs.BTreeMap.{get, is_at, Updates}
 use Rattle.bv_terms.specs.declared.words.Form.{Form}
 use Rattle.bv_terms.specs.declared.key.Key.{Key}
-use Rattle.bv_terms.specs.Index.{key_cmp, IsIndexed}
+use Rattle.bv_terms.specs.code.Index.{key_cmp, IsIndexed}
 use Rattle.bv_terms.proofs.IndexLemmas.{indexed-push, where_ok}
 use Rattle.bv_terms.proofs.segment.Segment.push.Goals as goal
 

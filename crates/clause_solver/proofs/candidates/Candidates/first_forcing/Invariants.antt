@@ -1,5 +1,5 @@
 use Rattle.std.proofs.Common.{ℕ, length}
-use Rattle.clause_solver.specs.Watching.{IsSeen}
+use Rattle.clause_solver.specs.code.Watching.{IsSeen}
 use Rattle.clause_solver.proofs.candidates.Candidates.first_forcing.Given as goal
 
 abbrev pub invariant-loop-number : goal.invariant-loop-number

@@ -1,7 +1,7 @@
 use Rattle.std.proofs.Common.{◌∷◌, [], ℕ, map, subst}
 use Rattle.std.specs.Prelude.{Vec}
 use Rattle.std.specs.Global.{Global}
-use Rattle.clause_solver.specs.Watching.{Put}
+use Rattle.clause_solver.specs.code.Watching.{Put}
 use Rattle.clause_solver.proofs.Watching.{put_one}
 use Rattle.clause_solver.proofs.lists.Lists.put_one.Goals as goal
 

@@ -2,8 +2,8 @@ use Rattle.std.proofs.Common.{◌≤◌, List, ℕ, suc, length, sym, ap, ◌∙
 use Rattle.refute_check.specs.Machine.{count_at, level_now}
 use Rattle.refute_check.specs.Rising.{IsLevelled}
 use Rattle.refute_check.proofs.Latest.{levelled_cut}
-use Rattle.clause_solver.specs.Places.{IsOnce}
-use Rattle.clause_solver.specs.Guarding.{AreGuarded}
+use Rattle.clause_solver.specs.code.Places.{IsOnce}
+use Rattle.clause_solver.specs.code.Guarding.{AreGuarded}
 use Rattle.clause_solver.proofs.Settling.{once_cut, cut_guarded, guarded_old, settled_learnt}
 use Rattle.clause_solver.proofs.Visiting.{more_length, held_more, sound_held}
 use Rattle.clause_solver.proofs.machine.State.learn.Goals as goal

@@ -1,10 +1,10 @@
 use Rattle.std.proofs.Common.{◌≡◌, ◌⊎◌, sym, ap, ◌∙◌, take, subst}
 use Rattle.refute_check.specs.Machine.{On}
 use Rattle.refute_check.specs.Rising.{IsLevelled}
-use Rattle.clause_solver.specs.Places.{IsOnce}
-use Rattle.clause_solver.specs.Guarding.{IsSettled}
-use Rattle.clause_solver.specs.Renewing.{IsWatchedBy, IsKeptIn, pair_at}
-use Rattle.clause_solver.specs.Watching.{opposite}
+use Rattle.clause_solver.specs.code.Places.{IsOnce}
+use Rattle.clause_solver.specs.code.Guarding.{IsSettled}
+use Rattle.clause_solver.specs.code.Renewing.{IsWatchedBy, IsKeptIn, pair_at}
+use Rattle.clause_solver.specs.code.Watching.{opposite}
 use Rattle.clause_solver.proofs.Watching.{set_after}
 use Rattle.clause_solver.proofs.Settling.{settled_moved}
 use Rattle.clause_solver.proofs.Visiting.{sound_put}

@@ -1,6 +1,6 @@
 use Rattle.std.proofs.Common.{sym}
 use Rattle.std.specs.Prelude.{slice_get}
-use Rattle.clause_solver.specs.Renewing.{pair_at}
+use Rattle.clause_solver.specs.code.Renewing.{pair_at}
 use Rattle.clause_solver.proofs.Guarding.{kept_seen}
 use Rattle.clause_solver.proofs.Turning.{forced_free}
 use Rattle.clause_solver.proofs.Settling.{all_guarded}

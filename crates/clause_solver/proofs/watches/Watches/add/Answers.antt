@@ -1,6 +1,6 @@
 use Rattle.std.proofs.Common.{◌≡◌, length, refl, subst, ◌∷◌, [], arith}
-use Rattle.clause_solver.specs.Watching.{Put}
-use Rattle.clause_solver.specs.Renewing.{Renewed}
+use Rattle.clause_solver.specs.code.Watching.{Put}
+use Rattle.clause_solver.specs.code.Renewing.{Renewed}
 use Rattle.clause_solver.proofs.Visiting.{added_sound, added_before}
 use Rattle.clause_solver.proofs.watches.Watches.add.Goals as goal
 

@@ -1,7 +1,7 @@
 use Rattle.std.proofs.Common.{List, Bool, subst}
 use Rattle.std.specs.Prelude.{IsTrue}
 use Rattle.bv_terms.specs.declared.words.Word.TheVariants.{Term as Numbered}
-use Rattle.term_rows.specs.Desks.{is_over}
+use Rattle.term_rows.specs.Sessions.{is_over}
 use Rattle.term_rows.proofs.QuestionLemmas.{asked}
 use Rattle.term_rows.proofs.drawn.Drawn.has.Goals as goal
 

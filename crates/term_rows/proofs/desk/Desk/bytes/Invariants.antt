@@ -1,6 +1,0 @@
-use Rattle.std.proofs.Common.{All}
-use Rattle.term_rows.specs.Desks.{IsWord}
-use Rattle.term_rows.proofs.desk.Desk.bytes.Given as goal
-
-abbrev pub invariant-loop-place : goal.invariant-loop-place
-invariant-loop-place l = All (IsWord l.self 8) l.words.items
