@@ -3,3 +3,5 @@ mod TermLemmas
 mod ValueLemmas
 mod WordLemmas
 mod ZipLemmas
+pub mod ReadLemmas
+pub mod ToldLemmas

@@ -170,8 +170,18 @@ fits_of_draws (x ∷ xs) fit zero d some = all_first (λ d. Fits (draw_value d))
 fits_of_draws (x ∷ xs) fit (suc i) d some = fits_of_draws xs (all_rest (λ d. Fits (draw_value d)) x xs fit) i d (omega arith)
 
 pub narrow_draw : (m : ℕ) (draw : Draw) → I32 m ≡ draw_value draw → record { wide = false; value = m } ≡ draw
-narrow_draw m record { wide = true; value = v } e = cc
-narrow_draw m record { wide = false; value = v } e = let n : m ≡ v = cc in ap (λ x. record { wide = false; value = x }) n
+narrow_draw m draw e = go draw.wide draw.value e
+  where
+    go : (wide : Bool) (v : ℕ) → I32 m ≡ draw_value (record { wide = wide; value = v }) → (let d : Draw = record { wide = false; value = m } in d) ≡ record { wide = wide; value = v }
+    go true v e = cc
+    go false v e = let n : m ≡ v = cc in ap (λ x. record { wide = false; value = x }) n
+
+pub wide_draw : (m : ℕ) (draw : Draw) → I64 m ≡ draw_value draw → record { wide = true; value = m } ≡ draw
+wide_draw m draw e = go draw.wide draw.value e
+  where
+    go : (wide : Bool) (v : ℕ) → I64 m ≡ draw_value (record { wide = wide; value = v }) → (let d : Draw = record { wide = true; value = m } in d) ≡ record { wide = wide; value = v }
+    go true v e = let n : m ≡ v = cc in ap (λ x. record { wide = true; value = x }) n
+    go false v e = cc
 
 -- ---- choices
 

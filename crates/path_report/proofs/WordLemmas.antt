@@ -24,11 +24,11 @@ is_clear (b ∷ bs) = cond (b == 32) false (is_clear bs)
 
 clear_both : (xs ys : List ℕ) → is_clear xs ≡ true → is_clear ys ≡ true → is_clear (xs ++ ys) ≡ true
 clear_both [] ys first second = second
-clear_both (x ∷ xs) ys first second = go (x == 32) first
+clear_both (x ∷ xs) ys first second = go (x == 32) (λ e. clear_both xs ys e second) first
   where
-    go : (b : Bool) → cond b false (is_clear xs) ≡ true → cond b false (is_clear (xs ++ ys)) ≡ true
-    go true e = e
-    go false e = clear_both xs ys e second
+    go : (b : Bool) → (is_clear xs ≡ true → is_clear (xs ++ ys) ≡ true) → cond b false (is_clear xs) ≡ true → cond b false (is_clear (xs ++ ys)) ≡ true
+    go true on e = e
+    go false on e = on e
 
 abbrev pub Digits : List ℕ → Type 0
 Digits [] = Unit {0}
@@ -53,11 +53,11 @@ clear_decimal n low = clear_digits (decimal n) (digits_of n low)
 
 one_word : (xs : List ℕ) → is_clear xs ≡ true → words_between xs ≡ xs ∷ []
 one_word [] clear = refl
-one_word (x ∷ xs) clear = go (x == 32) clear
+one_word (x ∷ xs) clear = go (x == 32) (λ e. one_word xs e) clear
   where
-    go : (b : Bool) → cond b false (is_clear xs) ≡ true → cond b ([] ∷ words_between xs) (onto_first x (words_between xs)) ≡ (x ∷ xs) ∷ []
-    go true e = absurd (let f : false ≡ true = e in cc)
-    go false e = ap (λ ws. onto_first x ws) (one_word xs e)
+    go : (b : Bool) → (is_clear xs ≡ true → words_between xs ≡ xs ∷ []) → cond b false (is_clear xs) ≡ true → cond b ([] ∷ words_between xs) (onto_first x (words_between xs)) ≡ (x ∷ xs) ∷ []
+    go true on e = absurd (let f : false ≡ true = e in cc)
+    go false on e = ap (λ ws. onto_first x ws) (on e)
 
 some_word : (xs : List ℕ) → words_between xs ≢ []
 some_word [] e = cc
@@ -78,11 +78,11 @@ onto_both x (w ∷ ws) vs some = refl
 -- at a space
 words_both : (xs ys : List ℕ) → words_between (xs ++ 32 ∷ ys) ≡ words_between xs ++ words_between ys
 words_both [] ys = refl
-words_both (x ∷ xs) ys = go (x == 32)
+words_both (x ∷ xs) ys = go (x == 32) (words_both xs ys)
   where
-    go : (b : Bool) → cond b ([] ∷ words_between (xs ++ 32 ∷ ys)) (onto_first x (words_between (xs ++ 32 ∷ ys))) ≡ cond b ([] ∷ words_between xs) (onto_first x (words_between xs)) ++ words_between ys
-    go true = ap (λ ws. [] ∷ ws) (words_both xs ys)
-    go false = ap (λ ws. onto_first x ws) (words_both xs ys) ∙ onto_both x (words_between xs) (words_between ys) (some_word xs)
+    go : (b : Bool) → words_between (xs ++ 32 ∷ ys) ≡ words_between xs ++ words_between ys → cond b ([] ∷ words_between (xs ++ 32 ∷ ys)) (onto_first x (words_between (xs ++ 32 ∷ ys))) ≡ cond b ([] ∷ words_between xs) (onto_first x (words_between xs)) ++ words_between ys
+    go true on = ap (λ ws. [] ∷ ws) on
+    go false on = ap (λ ws. onto_first x ws) on ∙ onto_both x (words_between xs) (words_between ys) (some_word xs)
 
 -- ---- lists
 

@@ -1,5 +1,5 @@
 -- Lists that are read item by item.
-use Rattle.std.proofs.Common.{◌≡◌, ℕ, zero, suc, ◌+◌, ◌<◌, List, [], ◌∷◌, ◌++◌, length, map, slice_index_or, get_or, take, drop, All, arith, refl, ap}
+use Rattle.std.proofs.Common.{◌≡◌, ◌≢◌, Bor, sym, ◌∙◌, ℕ, zero, suc, ◌+◌, ◌<◌, List, [], ◌∷◌, ◌++◌, length, map, slice_index_or, get_or, take, drop, All, arith, refl, ap}
 use Rattle.std.specs.List.{AllZip}
 
 -- ---- all of a list
@@ -34,27 +34,51 @@ abbrev pub ReadsAs : {A B : Type 0} → (B → A) → (B → Type 0) → A → B
 ReadsAs {A} {B} text Good a b = Good b × ((c : B) → Good c → a ≡ text c → b ≡ c)
 
 module _ {A B : Type 0} (text : B → A) (Good : B → Type 0) where
-  pub zip_good : (as : List A) (bs : List B) → AllZip (ReadsAs text Good) as bs → All Good bs
-  zip_good as [] h = all_none Good
-  zip_good [] (b ∷ bs) h = absurd h
-  zip_good (a ∷ as) (b ∷ bs) h = all_more Good b bs h.0.0 (zip_good as bs h.1)
+  pub zip_good : (xs : List A) (ys : List B) → AllZip (ReadsAs text Good) xs ys → All Good ys
+  zip_good xs [] h = all_none Good
+  zip_good [] (y ∷ ys) h = absurd h
+  zip_good (x ∷ xs) (y ∷ ys) h = all_more Good y ys h.0.0 (zip_good xs ys h.1)
 
-  pub zip_only : (as : List A) (bs cs : List B) → AllZip (ReadsAs text Good) as bs → All Good cs → as ≡ map text cs → bs ≡ cs
+  pub zip_only : (xs : List A) (ys zs : List B) → AllZip (ReadsAs text Good) xs ys → All Good zs → xs ≡ map text zs → ys ≡ zs
   zip_only [] [] [] h good e = refl
-  zip_only [] [] (c ∷ cs) h good e = cc
-  zip_only [] (b ∷ bs) cs h good e = absurd h
-  zip_only (a ∷ as) [] cs h good e = absurd h
-  zip_only (a ∷ as) (b ∷ bs) [] h good e = cc
-  zip_only (a ∷ as) (b ∷ bs) (c ∷ cs) h good e =
-      let first : a ≡ text c = ap (λ l. get_or l 0 a) e in
-      let rest : as ≡ map text cs = ap (λ l. drop 1 l) e in
-      let x : b ≡ c = h.0.1 c (all_first Good c cs good) first in
-      let xs : bs ≡ cs = zip_only as bs cs h.1 (all_rest Good c cs good) rest in
+  zip_only [] [] (z ∷ zs) h good e = cc
+  zip_only [] (y ∷ ys) zs h good e = absurd h
+  zip_only (x ∷ xs) [] zs h good e = absurd h
+  zip_only (x ∷ xs) (y ∷ ys) [] h good e = cc
+  zip_only (x ∷ xs) (y ∷ ys) (z ∷ zs) h good e =
+      let first : x ≡ text z = ap (λ l. get_or l 0 x) e in
+      let rest : xs ≡ map text zs = ap (λ l. drop 1 l) e in
+      let one : y ≡ z = h.0.1 z (all_first Good z zs good) first in
+      let more : ys ≡ zs = zip_only xs ys zs h.1 (all_rest Good z zs good) rest in
       cc
 
-  pub none_read : {W : Type 0} (f : W → A) (ws : List W) (i : ℕ) (d : W) → i < length ws → ((c : B) → Good c → f (slice_index_or ws i d) ≡ text c → ⊥)
-      → (cs : List B) → All Good cs → map f ws ≡ map text cs → ⊥
-  none_read f [] i d some none cs good e = omega arith
+  pub none_read : {W : Type 0} (f : W → A) (ws : List W) (i : ℕ) (d : W) → i < length ws → ((z : B) → Good z → f (slice_index_or ws i d) ≡ text z → ⊥)
+      → (zs : List B) → All Good zs → map f ws ≡ map text zs → ⊥
+  none_read f [] i d some none zs good e = omega arith
   none_read f (w ∷ ws) i d some none [] good e = cc
-  none_read f (w ∷ ws) zero d some none (c ∷ cs) good e = none c (all_first Good c cs good) (ap (λ l. get_or l 0 (f w)) e)
-  none_read f (w ∷ ws) (suc i) d some none (c ∷ cs) good e = none_read f ws i d (omega arith) none cs (all_rest Good c cs good) (ap (λ l. drop 1 l) e)
+  none_read f (w ∷ ws) zero d some none (z ∷ zs) good e = none z (all_first Good z zs good) (ap (λ l. get_or l 0 (f w)) e)
+  none_read f (w ∷ ws) (suc i) d some none (z ∷ zs) good e = none_read f ws i d (omega arith) none zs (all_rest Good z zs good) (ap (λ l. drop 1 l) e)
+
+-- ---- around a text
+
+module _ (t : List ℕ) where
+  pub around : (ws : List (Bor (List ℕ))) (i : ℕ) (d : Bor (List ℕ)) (before after : List (List ℕ)) → All (λ w. w.now ≢ t) (take i ws) → i < length ws → (slice_index_or ws i d).now ≡ t
+      → All (λ w. w ≢ t) before → map (λ w. w.now) ws ≡ before ++ t ∷ after
+      → (map (λ w. w.now) (take i ws) ≡ before) × (map (λ w. w.now) (drop (i + 1) ws) ≡ after)
+  around [] i d before after so some is others e = absurd (omega arith)
+  around (w ∷ ws) zero d [] after so some is others e = (refl, ap (λ l. drop 1 l) e)
+  around (w ∷ ws) zero d (b ∷ before) after so some is others e =
+      absurd (all_first (λ w. w ≢ t) b before others (sym (ap (λ l. get_or l 0 t) e) ∙ is))
+  around (w ∷ ws) (suc i) d [] after so some is others e =
+      absurd (all_first (λ w. w.now ≢ t) w (take i ws) so (ap (λ l. get_or l 0 t) e))
+  around (w ∷ ws) (suc i) d (b ∷ before) after so some is others e =
+      let first : w.now ≡ b = ap (λ l. get_or l 0 t) e in
+      let next : suc i + 1 ≡ suc (i + 1) = omega arith in
+      let rest = around ws i d before after (all_rest (λ w. w.now ≢ t) w (take i ws) so) (omega arith) is (all_rest (λ w. w ≢ t) b before others) (ap (λ l. drop 1 l) e) in
+      (rw (first, rest.0) refl, rw next rest.1)
+
+  pub none_around : (ws : List (Bor (List ℕ))) (before after : List (List ℕ)) → All (λ w. w.now ≢ t) ws → map (λ w. w.now) ws ≡ before ++ t ∷ after → ⊥
+  none_around [] [] after so e = cc
+  none_around [] (b ∷ before) after so e = cc
+  none_around (w ∷ ws) [] after so e = all_first (λ w. w.now ≢ t) w ws so (ap (λ l. get_or l 0 t) e)
+  none_around (w ∷ ws) (b ∷ before) after so e = none_around ws before after (all_rest (λ w. w.now ≢ t) w ws so) (ap (λ l. drop 1 l) e)

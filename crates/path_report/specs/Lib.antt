@@ -1,3 +1,5 @@
+pub mod Endings
+pub mod Listeners
 pub mod Report
 pub mod Reading
 pub mod code

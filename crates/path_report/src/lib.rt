@@ -4,20 +4,30 @@
 #![tactic(auto)]
 
 mod bad;
+mod clean;
+mod counts;
 mod heads;
+mod listener;
 mod names;
 mod reading;
 mod reading_kinds;
 mod reading_values;
 mod report;
 mod rows;
+mod tally;
+mod telling;
 mod terms;
 mod values;
 
 pub use bad::RowBad;
+pub use clean::Clean;
+pub use counts::Counts;
 pub use heads::Head;
+pub use listener::{Listener, Wish};
 pub use names::put_name;
 pub use reading::read_row;
 pub use report::{is_found, report_text};
 pub use rows::cause_words;
+pub use tally::Tally;
+pub use telling::tell;
 pub use values::put_list;

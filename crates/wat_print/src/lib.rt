@@ -19,6 +19,7 @@ mod words;
 use modules::put_module;
 use std::alloc::{AllocError, Global};
 use wasm_ast::Module;
+pub use words::opcode_word;
 
 /// The module in the text format, a field a line, with numbers for all indices. Custom sections aren't printed.
 pub fn print_text(alloc: Global, m: &Module) -> Result<Vec<u8>, AllocError>

@@ -2,9 +2,9 @@
 ghost use Rattle.std.specs.Prelude.{◌≡◌};
 ghost use Rattle.wasm_text.specs.Words.{word_of};
 
-// The word of an opcode; none where it is of another class.
+/// The word of a load, a store or a numeric operator (Text Format, Instructions); empty where the opcode is of another class.
 #[tactic(auto, unfolding(wasm_text::specs::Words::word_of))]
-pub(crate) fn opcode_word(op: u8) -> &'static str
+pub fn opcode_word(op: u8) -> &'static str
     ensures { result.now ≡ word_of op }
 {
     match op {
