@@ -1,16 +1,21 @@
 // The answer of each task.
 use fork_tree::{Bounds, Kind, Line, LineOp, Operand, Row, Shown, Terms};
-use path_report::{Clean, Head, Listener, RowBad, Tally, read_row, report_text, tell};
+use path_report::{Clean, Head, Listener, RowBad, Tally, Wish, read_row, report_text, tell};
 use std::alloc::{AllocError, Global};
 use wasm_ast::{Draw, List, Text, Value};
 
 // A text in which semicolons stand for line feeds.
 fn shown(alloc: Global, bytes: &[u8]) -> Result<String, AllocError> {
     let mut out = String::new(alloc);
+    put_shown(&mut out, bytes)?;
+    Ok(out)
+}
+
+fn put_shown(out: &mut String, bytes: &[u8]) -> Result<(), AllocError> {
     for byte in bytes {
         out.push(if *byte == b'\n' { ';' } else { *byte as char })?;
     }
-    Ok(out)
+    Ok(())
 }
 
 fn head_of(alloc: Global) -> Result<Head, AllocError> {
@@ -143,16 +148,34 @@ pub fn terms_answer(alloc: Global) -> Result<String, AllocError> {
     shown(alloc, text.as_slice())
 }
 
-/// What the listeners that are left say after the rows.
+/// What each of the two listeners says after a row, where it wants more.
 pub fn tell_answer(alloc: Global, lines: &str) -> Result<String, AllocError> {
     let rows = rows_of(alloc, lines)?;
-    let mut listeners: Vec<Box<dyn Listener>> = Vec::new(alloc);
-    listeners.push(Box::new(alloc, Tally::new()?)?)?;
-    listeners.push(Box::new(alloc, Clean::new())?)?;
-    tell(&mut listeners, rows.as_slice())?;
+    let mut none: Vec<Box<dyn Listener>> = Vec::new(alloc);
+    tell(&mut none, rows.as_slice())?;
     let mut out = String::new(alloc);
-    for listener in listeners.iter() {
-        out.push_str(shown(alloc, listener.tail())?.as_str())?;
+    match rows.as_slice() {
+        [] => Ok(out),
+        [row, ..] => {
+            put_tally(&mut out, row)?;
+            put_clean(&mut out, row)?;
+            Ok(out)
+        }
     }
-    Ok(out)
+}
+
+fn put_tally(out: &mut String, row: &Row) -> Result<(), AllocError> {
+    let mut tally = Tally::new()?;
+    match tally.row(row)? {
+        Wish::More => put_shown(out, tally.tail()),
+        Wish::Enough => Ok(()),
+    }
+}
+
+fn put_clean(out: &mut String, row: &Row) -> Result<(), AllocError> {
+    let mut clean = Clean::new();
+    match clean.row(row)? {
+        Wish::More => put_shown(out, clean.tail()),
+        Wish::Enough => Ok(()),
+    }
 }

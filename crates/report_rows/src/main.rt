@@ -2,7 +2,7 @@
 //
 // A line is a task, a colon and a space, and lines of rows with semicolons between them. The task `read` tells of each line whether it
 // is read as a row, and by which words it is printed again, or that its spelling is none. The task `report` prints the report of the rows,
-// `terms` that of a row whose result is a term, and `tell` what the two listeners say after the rows. In an answer a semicolon stands
+// `terms` that of a row whose result is a term, and `tell` what the two listeners say after one row. In an answer a semicolon stands
 // for each line feed. Lines that begin with `#` and empty ones are written as they are. The answers in `stdout` are what the docs of the
 // report say, by hand.
 #![tactic(auto)]
