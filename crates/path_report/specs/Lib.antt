@@ -3,3 +3,4 @@ pub mod Listeners
 pub mod Report
 pub mod Reading
 pub mod code
+pub mod Replays

@@ -1,3 +1,4 @@
 pub mod InnerSequences
+pub mod LaidSequences
 pub mod NamedOnce
 pub mod NumberingLemmas

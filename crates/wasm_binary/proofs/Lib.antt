@@ -3,7 +3,6 @@ pub mod Examples
 pub mod GrammarLaws
 pub mod KindLaws
 pub mod ModuleLaws
-pub mod ShapeOfBodies
 pub mod ShapeOfExpressions
 pub mod ShapeOfInstructions
 pub mod ShapeOfLists

@@ -15,7 +15,7 @@ use Rattle.wasm_binary.specs.Types.{block_type}
 use Rattle.wasm_binary.specs.Instructions.{Opcode, Around, is_opcode, is_outside, allowed_after_FC, as_opcode, allowed, Sequence, all_of, empty_sequence, WithInside, Sequences, block_of, if_of, instruction, is_last, before, after_opcode, sequence_below, expression}
 use Rattle.wasm_binary.proofs.GrammarLaws.{opcode_has_bytes}
 use Rattle.wasm_binary.proofs.ShapeOfLists.{AreFew, few_of, SpellsOnly}
-use Rattle.wasm_binary.proofs.ShapeOfBodies.{IsLaid, none_laid, wrapped, appended, numbered}
+use Rattle.wasm_ast.proofs.LaidSequences.{IsLaid, none_laid, wrapped, appended, numbered}
 use Rattle.wasm_binary.proofs.ShapeOfInstructions.{IsPlainOpcode, plain_only, or_not}
 use Rattle.owi_base.proofs.Choices.{chosen}
 

@@ -25,7 +25,7 @@ use Rattle.wasm_binary.specs.SectionEntries.{constant, import_kind, import, glob
 use Rattle.wasm_binary.specs.Locals.{Code, code}
 use Rattle.wasm_binary.specs.Modules.{Sections, no_sections, slot_of, next_id, same_count, same_as_announced, custom, code_section, data_section, into, contents, section, sections, funcs_of, without_customs, last_written, settled, module_of, IsBinary}
 use Rattle.wasm_binary.proofs.ShapeOfLists.{EachIsByte, AreFew, bytes_of, SpellsOnly, gives_only, then_only, any_only, checked_only, when_only, Any, AllShort, IsU32, u32_small, u32_only, AreMany, many_only, vec_only, name_only, ref_type_only, table_type_only, func_type_only}
-use Rattle.wasm_binary.proofs.ShapeOfBodies.{none_laid, numbered}
+use Rattle.wasm_ast.proofs.LaidSequences.{none_laid, numbered}
 use Rattle.wasm_binary.proofs.ShapeOfExpressions.{expression_only}
 use Rattle.wasm_binary.proofs.ShapeOfLocals.{CodeHasShape, code_only}
 use Rattle.owi_base.proofs.Choices.{chosen, taken, passed}

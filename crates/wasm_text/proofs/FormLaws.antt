@@ -1,5 +1,5 @@
 -- A form ends: it goes on with what is left, and what approximates forms that are nested or repeated is never passed.
-use Rattle.std.proofs.Common.{◌≡◌, ℕ, zero, suc, ◌+◌, ◌-◌, ◌≤◌, ◌<◌, Bool, true, false, List, [], ◌∷◌, length, Option, Some, None, Result, Ok, Err, refl, arith}
+use Rattle.std.proofs.Common.{◌≡◌, ℕ, zero, suc, ◌+◌, ◌-◌, ◌≤◌, ◌<◌, Bool, true, false, List, [], ◌∷◌, ◌++◌, length, Option, Some, None, Result, Ok, Err, refl, sym, ap, ◌∙◌, append_assoc, length-append, arith}
 use Rattle.std.specs.Prelude.{if◌then◌else◌}
 use Rattle.wasm_text.specs.declared.tokens.Token.{Token}
 use Rattle.wasm_text.specs.declared.tokens.TokenKind.{TokenKind}
@@ -13,35 +13,36 @@ abbrev pub is_memory : TextBad → Bool
 is_memory NoMemory = true
 is_memory _ = false
 
--- of n tokens, k were taken; a trouble is one of the text
-abbrev pub Keeps : {A : Type 0} → ℕ → ℕ → Result (A × Rest) TextBad → Type 0
-Keeps k n (Ok x) = length x.1.tokens + k ≤ n
-Keeps k n (Err bad) = is_memory bad ≡ false
+-- of these tokens, k at least were taken from the front; a trouble is one of the text
+abbrev pub Keeps : {A : Type 0} → ℕ → List Token → Result (A × Rest) TextBad → Type 0
+Keeps k tokens (Ok x) = (front : List Token) × (tokens ≡ front ++ x.1.tokens) × (k ≤ length front)
+Keeps k tokens (Err bad) = is_memory bad ≡ false
 
 -- where fewer than n tokens are left, at least k of them are taken
 pub record Moves {A : Type 0} (n k : ℕ) (f : Form A) : Type 0 where
-  pub each : (r : Rest) → length r.tokens < n → Keeps k (length r.tokens) (f r)
+  pub each : (r : Rest) → length r.tokens < n → Keeps k r.tokens (f r)
 
 -- ---- one form after another
 
-fewer : {A : Type 0} (res : Result (A × Rest) TextBad) (k m j n : ℕ) → m + j ≤ n → Keeps k m res → Keeps (j + k) n res
-fewer (Ok x) k m j n le h = omega (arith, h)
-fewer (Err bad) k m j n le h = h
+further : {A : Type 0} (res : Result (A × Rest) TextBad) (k j : ℕ) (tokens front rest : List Token) → tokens ≡ front ++ rest → j ≤ length front → Keeps k rest res → Keeps (j + k) tokens res
+further (Ok x) k j tokens front rest e le h = (front ++ h.0, e ∙ ap (λ (l : List Token). front ++ l) h.1 ∙ sym (append_assoc front h.0 x.1.tokens), omega (arith, le, h.2, length-append front h.0))
+further (Err bad) k j tokens front rest e le h = h
 
-on_result : {A B : Type 0} (res : Result (A × Rest) TextBad) (g : A → Form B) (n m j k : ℕ) → m < n → Keeps j m res → ((x : A) → Moves (n - j) k (g x)) → Keeps (j + k) m (read_on res g)
-on_result (Ok x) g n m j k below h q = fewer (g x.0 x.1) k (length x.1.tokens) j m h ((q x.0).each x.1 (omega (arith, h, below)))
-on_result (Err bad) g n m j k below h q = h
+on_result : {A B : Type 0} (res : Result (A × Rest) TextBad) (g : A → Form B) (n j k : ℕ) (tokens : List Token) → length tokens < n → Keeps j tokens res → ((x : A) → Moves (n - j) k (g x)) → Keeps (j + k) tokens (read_on res g)
+on_result (Ok x) g n j k tokens below h q =
+    further (g x.0 x.1) k j tokens h.0 x.1.tokens h.1 h.2 ((q x.0).each x.1 (omega (arith, h.2, below, ap length h.1, length-append h.0 x.1.tokens)))
+on_result (Err bad) g n j k tokens below h q = h
 
 pub then_moves : {A B : Type 0} (n j k : ℕ) (f : Form A) (g : A → Form B) → Moves n j f → ((x : A) → Moves (n - j) k (g x)) → Moves n (j + k) (f >>= g)
-then_moves n j k f g p q = record { each = λ r below. on_result (f r) g n (length r.tokens) j k below (p.each r below) q }
+then_moves n j k f g p q = record { each = λ r below. on_result (f r) g n j k r.tokens below (p.each r below) q }
 
-less : {A : Type 0} (res : Result (A × Rest) TextBad) (k j n : ℕ) → j ≤ k → Keeps k n res → Keeps j n res
-less (Ok x) k j n le h = omega (arith, h, le)
-less (Err bad) k j n le h = h
+less : {A : Type 0} (res : Result (A × Rest) TextBad) (k j : ℕ) (tokens : List Token) → j ≤ k → Keeps k tokens res → Keeps j tokens res
+less (Ok x) k j tokens le h = (h.0, h.1, omega (arith, h.2, le))
+less (Err bad) k j tokens le h = h
 
 -- fewer tokens are taken as well, and fewer left
 pub weaker : {A : Type 0} {n k : ℕ} {f : Form A} (m j : ℕ) → m ≤ n → j ≤ k → Moves n k f → Moves m j f
-weaker {A} {n} {k} {f} m j le few p = record { each = λ r below. less (f r) k j (length r.tokens) few (p.each r (omega (arith, le, below))) }
+weaker {A} {n} {k} {f} m j le few p = record { each = λ r below. less (f r) k j r.tokens few (p.each r (omega (arith, le, below))) }
 
 -- what is said of no tokens at all is said of any number
 pub goes : {A : Type 0} {n : ℕ} {f : Form A} → Moves n 1 f → Moves n 0 f
@@ -69,13 +70,13 @@ if_moves false p q = q
 -- ---- first forms
 
 pub gives_moves : {A : Type 0} (n : ℕ) (x : A) → Moves n 0 (gives x)
-gives_moves n x = record { each = λ r below. omega arith }
+gives_moves n x = record { each = λ r below. ([], refl, omega arith) }
 
 pub fails_moves : {A : Type 0} (n k : ℕ) (bad : TextBad) → is_memory bad ≡ false → Moves n k (fails {A = A} bad)
 fails_moves n k bad e = record { each = λ r below. e }
 
-looked_keeps : {A : Type 0} (r : Rest) (res : Result A TextBad) → ((bad : TextBad) → res ≡ Err bad → is_memory bad ≡ false) → Keeps 0 (length r.tokens) (looked r res)
-looked_keeps r (Ok x) h = omega arith
+looked_keeps : {A : Type 0} (r : Rest) (res : Result A TextBad) → ((bad : TextBad) → res ≡ Err bad → is_memory bad ≡ false) → Keeps 0 r.tokens (looked r res)
+looked_keeps r (Ok x) h = ([], refl, omega arith)
 looked_keeps r (Err bad) h = h bad refl
 
 first_told : (tokens : List Token) (bad : Option LexBad) (why : TextBad) → first_of tokens bad ≡ Err why → is_memory why ≡ false
@@ -100,7 +101,7 @@ pub inside_moves : (n : ℕ) → Moves n 0 inside
 inside_moves n = record { each = λ r below. looked_keeps r (inside_of r.tokens r.bad) (inside_told r.tokens r.bad) }
 
 pub source_moves : (n : ℕ) → Moves n 0 source
-source_moves n = record { each = λ r below. omega arith }
+source_moves n = record { each = λ r below. ([], refl, omega arith) }
 
 pub next_is_moves : (n : ℕ) (test : TokenKind → Bool) → Moves n 0 (next_is test)
 next_is_moves n test = after (ahead_moves n) (λ t. gives_moves n _)
@@ -121,9 +122,9 @@ place_moves n = after (ahead_moves n) (λ t. after (source_moves n) (λ text. gi
 pub want_moves : {A : Type 0} (n : ℕ) → Moves n 1 (want {A = A})
 want_moves n = before_taken (ahead_moves n) (λ t. before_taken (place_moves n) (λ at. fails_moves n 1 (Want t at) refl))
 
-pass_keeps : (n : ℕ) (r : Rest) (tokens : List Token) → r.tokens ≡ tokens → length r.tokens < n → Keeps 1 (length r.tokens) (pass_from r tokens)
+pass_keeps : (n : ℕ) (r : Rest) (tokens : List Token) → r.tokens ≡ tokens → length r.tokens < n → Keeps 1 r.tokens (pass_from r tokens)
 pass_keeps n r [] e below = (want_moves n).each r below
-pass_keeps n r (t ∷ rest) e below = rw e (omega arith)
+pass_keeps n r (t ∷ rest) e below = (t ∷ [], e, omega arith)
 
 pub pass_moves : (n : ℕ) → Moves n 1 pass
 pass_moves n = record { each = λ r below. pass_keeps n r r.tokens refl below }
@@ -160,4 +161,4 @@ pub as_long_moves : {A : Type 0} (n : ℕ) (test : Form Bool) (f : Form A) → (
 as_long_moves n test f p q = record { each = λ r below. (as_long_below_moves (suc (length r.tokens)) test f p q).each r (omega arith) }
 
 pub keeps_moves : (n : ℕ) (u : Use) → Moves n 0 (keeps u)
-keeps_moves n u = record { each = λ r below. omega arith }
+keeps_moves n u = record { each = λ r below. ([], refl, omega arith) }

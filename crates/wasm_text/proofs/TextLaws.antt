@@ -52,16 +52,16 @@ told_unless m (Some why) bad h e = let same : why ≡ bad = cc in subst (λ w. i
 err_is : (text : List ℕ) (why bad : TextBad) → then_resolved text (Err why) ≡ Err bad → why ≡ bad
 err_is text why bad e = cc
 
-told_then : (text : List ℕ) (n : ℕ) (res : Result (Named × Rest) TextBad) (bad : TextBad) → Keeps 0 n res → then_resolved text res ≡ Err bad → is_memory bad ≡ false
-told_then text n (Ok read) bad h e =
+told_then : (text : List ℕ) (tokens : List Token) (res : Result (Named × Rest) TextBad) (bad : TextBad) → Keeps 0 tokens res → then_resolved text res ≡ Err bad → is_memory bad ≡ false
+told_then text tokens (Ok read) bad h e =
     let s = scope_of text read.0 read.1.uses in
     told_unless (module_in s read.0) (least (troubles s read.0)) bad (least_told (troubles s read.0) (troubles_told s read.0)) e
-told_then text n (Err why) bad h e = let same : why ≡ bad = err_is text why bad e in subst (λ w. is_memory w ≡ false) same h
+told_then text tokens (Err why) bad h e = let same : why ≡ bad = err_is text why bad e in subst (λ w. is_memory w ≡ false) same h
 
 pub fault_told : (text : List ℕ) (bad : TextBad) → TextFault text bad → is_memory bad ≡ false
 fault_told text bad f =
     let start = at_start text f.reads.tokens f.reads.bad in
-    told_then text (length start.tokens) (module_form start) bad ((module_moves (suc (length start.tokens))).each start (omega arith)) f.reads.is
+    told_then text start.tokens (module_form start) bad ((module_moves (suc (length start.tokens))).each start (omega arith)) f.reads.is
 
 pub no_want_of_memory : (text : List ℕ) → TextFault text NoMemory → ⊥
 no_want_of_memory text f = let no : true ≡ false = fault_told text NoMemory f in absurd cc

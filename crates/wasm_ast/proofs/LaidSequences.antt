@@ -1,6 +1,6 @@
--- The sequences of an expression that is spelled are numbered in the order in which they open, and its instructions have
--- their shape.
-use Rattle.std.proofs.Common.{◌≡◌, ℕ, zero, suc, ◌+◌, ◌-◌, ◌<◌, inl, inr, true, List, [], ◌∷◌, ◌++◌, length, Option, Some, None, refl, sym, ap, ◌∙◌, arith, length-append, zero-add}
+-- The sequences of an expression, laid out in the order in which they open, are numbered in that order: what both forms of a
+-- module, bytes and text, need of the bodies that they spell.
+use Rattle.std.proofs.Common.{◌≡◌, ℕ, zero, suc, ◌+◌, ◌-◌, ◌<◌, inl, inr, Bool, true, false, cond, List, [], ◌∷◌, ◌++◌, length, Option, Some, None, refl, sym, ap, ◌∙◌, arith, length-append, zero-add}
 use Rattle.std.specs.Prelude.{slice_get, slice_index, nat_lt, ◌==◌, ◌&&◌, option_and_then}
 use Rattle.std.proofs.lemmas.List.{get_or_append_left, get_or-append-add}
 use Rattle.std.proofs.lemmas.Bool.{cases_lt}
@@ -8,9 +8,10 @@ use Rattle.std.proofs.lemmas.Bool.Decides.{nat_tests}
 use Rattle.wasm_ast.specs.Numbering.{after, names, IsNumbered}
 use Rattle.wasm_ast.specs.declared.instructions.Instr.{Instr}
 use Rattle.wasm_ast.proofs.NumberingLemmas.{after-append, if_some}
-use Rattle.owi_base.proofs.Choices.{taken}
 
--- ---- the numbers of sequences
+taken : {X : Type 0} (b : Bool) (x y : X) → b ≡ true → cond b x y ≡ x
+taken true x y e = refl
+taken false x y e = absurd cc
 
 -- the ends stand among all ends from k on
 abbrev pub StandAt : List ℕ → ℕ → List ℕ → Type 0
