@@ -1,18 +1,18 @@
 -- Each input that meets its assumptions is covered by one row.
-use Rattle.std.proofs.Common.{◌⊎◌, inl, inr, ◌≡◌, ◌≢◌, ℕ, zero, suc, ◌+◌, ◌<◌, ◌≤◌, List, [], ◌∷◌, ◌++◌, length, refl, sym, ap, ◌∙◌, subst, arith}
+use Rattle.std.proofs.Common.{◌⊎◌, inl, inr, ◌≡◌, ℕ, List, [], ◌∷◌, ◌++◌, length, refl, sym, subst}
 use Rattle.std.specs.Prelude.{Bool, true, false, not, ◌==◌, nat_lt, if◌then◌else◌}
 use Rattle.wasm_ast.specs.declared.runs.Draw.{Draw}
 use Rattle.wasm_reduction.specs.Configurations.{Question, Test, Pick, Assume}
-use Rattle.wasm_reduction.specs.Scripts.{Script, Finished, Asked, told, Past}
-use Rattle.fork_tree.specs.declared.rows.Kind.TheVariants.{Cut, Undecided, Void}
-use Rattle.sym_state.specs.Nodes.{Invocation, IsScriptAt, Node, IsMemberAt, IsMember}
-use Rattle.sym_state.specs.NextNodes.{bit, gone_on, assumed}
+use Rattle.wasm_reduction.specs.Scripts.{Script, Finished, Asked}
+use Rattle.fork_tree.specs.declared.rows.Kind.TheVariants.{Void}
+use Rattle.sym_state.specs.Nodes.{Node, IsMemberAt, IsMember}
+use Rattle.sym_state.specs.NextNodes.{gone_on, assumed}
 use Rattle.bv_terms.specs.Terms.{is_number}
-use Rattle.fork_tree.specs.Nodes.{IsLeastPick, Query, OfTest, OfPick, AsksOf, is_true, side_of, NoneAnswers}
+use Rattle.fork_tree.specs.Nodes.{Query, OfTest, OfPick, AsksOf, is_true, NoneAnswers}
 use Rattle.fork_tree.specs.Marks.{Words, Marks}
 use Rattle.fork_tree.specs.ShownTerms.{no_terms}
-use Rattle.fork_tree.specs.Tree.{child, passed, met, dead, beside, leaf, Leaf, Whole, Side, Meeting, Nobody, Branch, Under, Dead, Turn, Goes, EndsBy, Forks, Either, IfTrue, Queries, Assuming, Picks, Does, Turns, Tree, End, Pass, Split, Below, IsTree, leaves}
-use Rattle.fork_tree.specs.Covers.{IsIn, Covers, NoneOf, OneOf, OneAtMost, SomeOf}
+use Rattle.fork_tree.specs.Tree.{child, passed, met, dead, beside, leaf, Nobody, Branch, Under, Dead, Turn, Goes, EndsBy, Forks, Either, Queries, Assuming, Does, Turns, Tree, End, Pass, Split, Below, IsTree, leaves}
+use Rattle.fork_tree.specs.Covers.{Covers, OneOf, OneAtMost, SomeOf}
 use Rattle.fork_tree.specs.code.Known.{Known}
 use Rattle.fork_tree.specs.code.Parts.{Meets, OnSide, Fits, InBranch, ForkParts, Parts}
 use Rattle.fork_tree.proofs.Lists.{at-most-append, some-left, some-right, some-append, one-of}

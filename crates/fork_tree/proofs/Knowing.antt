@@ -1,17 +1,11 @@
 -- The scripts of a valid and ready module are known to have answered alike, and so on.
-use Rattle.std.proofs.Common.{◌≡◌, ◌≢◌, ℕ, zero, suc, List, [], ◌∷◌, ◌++◌, refl, sym, ap, ◌∙◌, subst, All}
-use Rattle.std.specs.Prelude.{Bool, true, false}
-use Rattle.wasm_ast.specs.declared.modules.Module.{Module}
-use Rattle.wasm_ast.specs.declared.runs.Value.{Value}
+use Rattle.std.proofs.Common.{◌≡◌, ℕ, zero, suc, List, [], ◌∷◌, ◌++◌, refl, ap, ◌∙◌}
+use Rattle.std.specs.Prelude.{false}
 use Rattle.wasm_ast.specs.declared.runs.Draw.{Draw}
-use Rattle.wasm_ast.specs.declared.runs.Outcome.{Outcome}
 use Rattle.wasm_ast.specs.declared.runs.Outcome.TheVariants.{Assumes as AssumeFailed}
-use Rattle.wasm_check.specs.Modules.{IsValid}
-use Rattle.wasm_image.specs.Ready.{IsReady}
 use Rattle.wasm_reduction.specs.Configurations.{Question, Assume}
 use Rattle.wasm_reduction.specs.Runs.{answer_of, MeetsAssumptions}
-use Rattle.wasm_reduction.specs.Scripts.{Script, Finished, Asked, IsScript, told, told_after, Through, Past, Passes, drawn, as_input}
-use Rattle.wasm_reduction.specs.Widths.{HasNumbers, ArgumentFits}
+use Rattle.wasm_reduction.specs.Scripts.{Script, Finished, Asked, told, told_after, Through, Past, Passes}
 use Rattle.wasm_reduction.proofs.ScriptRuns.{script-told}
 use Rattle.wasm_reduction.proofs.ScriptLaws.{left-comes, script-of, one-script}
 use Rattle.wasm_reduction.proofs.ScriptPlaces.{firsts-alike}

@@ -5,3 +5,5 @@ pub mod Covering
 pub mod Knowing
 pub mod Ordered
 pub mod Telling
+pub mod AskedTerms
+pub mod Refuting

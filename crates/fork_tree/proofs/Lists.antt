@@ -1,6 +1,5 @@
 -- Facts of lists of draws and of lists of rows.
-use Rattle.std.proofs.Common.{◌⊎◌, inl, inr, ◌≡◌, ℕ, zero, suc, ◌+◌, ◌<◌, ◌≤◌, List, [], ◌∷◌, ◌++◌, length, refl, sym, ap, ◌∙◌, subst, arith}
-use Rattle.std.specs.Prelude.{Bool, true, false, not}
+use Rattle.std.proofs.Common.{◌⊎◌, inl, inr, ◌≡◌, ℕ, ◌<◌, List, [], ◌∷◌, ◌++◌, refl, arith}
 use Rattle.sym_state.specs.Nodes.{IsAtMost}
 use Rattle.fork_tree.specs.Covers.{NoneOf, OneOf, OneAtMost, SomeOf}
 

@@ -1,5 +1,5 @@
 -- The rows rise in choice order, and print the least inputs.
-use Rattle.std.proofs.Common.{◌⊎◌, inl, inr, ◌≡◌, ◌≢◌, ℕ, zero, suc, List, [], ◌∷◌, ◌++◌, length, refl, sym, ap, ◌∙◌, subst, append_assoc, append-nil}
+use Rattle.std.proofs.Common.{inl, inr, ◌≡◌, ◌≢◌, ℕ, List, [], ◌∷◌, ◌++◌, length, refl, sym, ◌∙◌, subst, append_assoc, append-nil}
 use Rattle.std.specs.Prelude.{Bool, true, false, not, ◌==◌, nat_lt, if◌then◌else◌}
 use Rattle.bv_terms.specs.Terms.{is_number}
 use Rattle.wasm_ast.specs.declared.runs.Outcome.TheVariants.{Returns as Returned, Traps as Trapped, Fails as Failed, Assumes as AssumeFailed, Bound as BoundReached, Deep as TooDeep}
@@ -7,17 +7,17 @@ use Rattle.wasm_ast.specs.declared.runs.Draw.{Draw}
 use Rattle.wasm_ast.specs.declared.runs.Outcome.{Outcome}
 use Rattle.wasm_reduction.specs.Configurations.{Test, Pick, Assume}
 use Rattle.wasm_reduction.specs.Scripts.{Script, Finished, Asked, drawn}
-use Rattle.fork_tree.specs.declared.rows.Kind.TheVariants.{Cut, Undecided, Void}
+use Rattle.fork_tree.specs.declared.rows.Kind.TheVariants.{Cut}
 use Rattle.fork_tree.specs.declared.rows.Row.{Row}
 use Rattle.fork_tree.specs.declared.rows.Terms.{Terms}
 use Rattle.sym_state.specs.Nodes.{Node, draws_before}
 use Rattle.sym_state.specs.NextNodes.{bit, gone_on, assumed}
-use Rattle.fork_tree.specs.Nodes.{IsLeastAt, IsLeastPick, NoneAnswers, Query, OfTest, OfPick, is_true}
+use Rattle.fork_tree.specs.Nodes.{IsLeastAt, Query, OfTest, OfPick, is_true}
 use Rattle.fork_tree.specs.Marks.{Words, Marks}
 use Rattle.fork_tree.specs.ShownTerms.{no_terms}
-use Rattle.fork_tree.specs.Tree.{child, passed, met, dead, beside, leaf, Leaf, Whole, Side, Meeting, Nobody, Branch, Under, Dead, Turn, Goes, EndsBy, Forks, Either, IfTrue, kind_of, shown_of, Queries, Assuming, Picks, Does, Turns, Tree, End, Pass, Split, Below, IsTree, leaves, rows_of}
+use Rattle.fork_tree.specs.Tree.{child, passed, met, beside, leaf, Leaf, Whole, Branch, Under, Dead, Turn, Goes, EndsBy, Forks, kind_of, shown_of, Queries, Assuming, Does, Turns, Tree, End, Pass, Split, Below, IsTree, leaves, rows_of}
 use Rattle.fork_tree.specs.code.Known.{Known}
-use Rattle.fork_tree.specs.Order.{Before, EachRow, Rising, EachLeaf, PrintsLeast, Prints, PrintsItsLeast}
+use Rattle.fork_tree.specs.Order.{Before, EachRow, Rising, EachLeaf, PrintsItsLeast}
 use Rattle.fork_tree.proofs.Same.{if-elim, either-elim, Keeps, KeptBranch, turns-kept, known-on}
 
 abbrev Begins : List ℕ → List ℕ → Type 0

@@ -1,16 +1,16 @@
 -- Each node has one turn, one tree and one list of rows.
-use Rattle.std.proofs.Common.{◌⊎◌, inl, inr, ◌≡◌, ℕ, zero, suc, ◌+◌, ◌<◌, ◌≤◌, List, [], ◌∷◌, ◌++◌, length, refl, sym, ap, ◌∙◌, subst, arith}
+use Rattle.std.proofs.Common.{inl, inr, ◌≡◌, ℕ, ◌≤◌, List, [], ◌∷◌, length, refl, sym, ap, ◌∙◌, subst, arith}
 use Rattle.std.specs.Prelude.{Bool, true, false, not, ◌==◌, nat_lt, if◌then◌else◌}
 use Rattle.bv_terms.specs.Terms.{is_number}
 use Rattle.sym_state.specs.NextNodes.{gone_on, assumed}
 use Rattle.wasm_ast.specs.declared.runs.Draw.{Draw}
-use Rattle.wasm_reduction.specs.Configurations.{Question, Test, Pick, Assume}
+use Rattle.wasm_reduction.specs.Configurations.{Test, Pick, Assume}
 use Rattle.wasm_reduction.specs.Scripts.{Script, Finished, Asked, Past}
-use Rattle.sym_state.specs.Nodes.{Invocation, IsScriptAt, Node, IsMemberAt, IsAtMost, draws_before}
+use Rattle.sym_state.specs.Nodes.{Node, IsMemberAt, draws_before}
 use Rattle.fork_tree.specs.declared.rows.Row.{Row}
-use Rattle.fork_tree.specs.Nodes.{IsLeastAt, IsLeastPick, Query, OfTest, OfPick, AsksOf, is_true, side_of, NoneAnswers}
+use Rattle.fork_tree.specs.Nodes.{IsLeastAt, IsLeastPick, Query, OfTest, OfPick, AsksOf, is_true}
 use Rattle.fork_tree.specs.Marks.{Words, Marks}
-use Rattle.fork_tree.specs.Tree.{Leaf, Branch, Under, Dead, Turn, Goes, EndsBy, Forks, Either, IfTrue, Queries, Assuming, Picks, Does, Turns, Tree, End, Pass, Split, Below, IsTree, leaves, rows_of, Rows, passed, child, met, beside, dead}
+use Rattle.fork_tree.specs.Tree.{Branch, Under, Dead, Turn, Goes, EndsBy, Forks, Either, IfTrue, Queries, Assuming, Picks, Does, Turns, Tree, End, Pass, Split, Below, IsTree, leaves, rows_of, Rows, passed, child, met, beside}
 use Rattle.fork_tree.specs.code.Known.{Known}
 use Rattle.fork_tree.proofs.Lists.{at-most-both}
 

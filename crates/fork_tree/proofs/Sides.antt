@@ -1,19 +1,18 @@
 -- The members of a node are those of the sides of its question.
-use Rattle.std.proofs.Common.{◌⊎◌, inl, inr, ◌≡◌, ◌≢◌, ℕ, zero, suc, ◌+◌, ◌<◌, ◌≤◌, List, [], ◌∷◌, ◌++◌, length, refl, sym, ap, ◌∙◌, subst, arith}
-use Rattle.std.specs.Prelude.{Bool, true, false, not, ◌==◌, nat_lt}
+use Rattle.std.proofs.Common.{◌⊎◌, inl, inr, ◌≡◌, ◌≢◌, ℕ, zero, suc, List, [], ◌∷◌, ◌++◌, refl, sym, ap, ◌∙◌, subst, arith}
+use Rattle.std.specs.Prelude.{Bool, true, false, not, ◌==◌}
 use Rattle.wasm_ast.specs.declared.runs.Draw.{Draw}
-use Rattle.wasm_ast.specs.declared.runs.Outcome.{Outcome}
 use Rattle.wasm_reduction.specs.Configurations.{Question, Test, Pick, Assume}
 use Rattle.wasm_reduction.specs.Runs.{answer_of, is_not_zero}
-use Rattle.wasm_reduction.specs.Scripts.{Script, Finished, Asked, Past, Passes, Alike, drawn}
-use Rattle.sym_state.specs.Nodes.{Invocation, IsScriptAt, Node, IsNoneOf, PicksNoneOf, IsAllowed, IsMemberAt, IsMember}
+use Rattle.wasm_reduction.specs.Scripts.{Script, Finished, Asked, Past, Passes, Alike}
+use Rattle.sym_state.specs.Nodes.{IsScriptAt, Node, IsNoneOf, IsAllowed, IsMemberAt, IsMember}
 use Rattle.sym_state.specs.NextNodes.{bit}
-use Rattle.fork_tree.specs.Nodes.{IsLeastPick, Query, OfTest, OfPick, AsksOf, is_true, side_of}
+use Rattle.fork_tree.specs.Nodes.{Query, OfTest, OfPick, AsksOf, is_true, side_of}
 use Rattle.fork_tree.specs.Marks.{Words}
-use Rattle.fork_tree.specs.Tree.{child, passed}
+use Rattle.fork_tree.specs.Tree.{child}
 use Rattle.fork_tree.specs.code.Known.{Known}
 use Rattle.fork_tree.specs.code.Parts.{OnSide, Fits}
-use Rattle.fork_tree.proofs.Same.{past-same, left-same}
+use Rattle.fork_tree.proofs.Same.{left-same}
 
 pub past-more : (A : List ℕ) (r s : Script) (k : Question) (v : ℕ) (d : List Draw) → Past A r (Asked k v d s) → Passes k v → Past (A ++ answer_of k v ∷ []) r s
 past-more [] r s k v d h p = subst (λ r. Past (answer_of k v ∷ []) r s) (sym h) (refl, p, refl)

@@ -1,6 +1,5 @@
 -- What a row of an outcome says of the inputs that it covers.
 use Rattle.std.proofs.Common.{◌≡◌, ◌≢◌, ℕ, List, [], ◌∷◌, ◌++◌, refl, sym, ap, ◌∙◌, subst}
-use Rattle.wasm_ast.specs.declared.runs.Draw.{Draw}
 use Rattle.wasm_ast.specs.declared.runs.Outcome.{Outcome}
 use Rattle.wasm_ast.specs.declared.runs.Outcome.TheVariants.{Returns as Returned, Traps as Trapped, Fails as Failed, Assumes as AssumeFailed, Bound as BoundReached, Deep as TooDeep}
 use Rattle.wasm_reduction.specs.Configurations.{Question}
@@ -8,9 +7,8 @@ use Rattle.wasm_reduction.specs.Runs.{answer_of}
 use Rattle.wasm_reduction.specs.Scripts.{Script, Finished, Asked, Alike, Through, Passes, told, told_after, as_input, without_numbers}
 use Rattle.fork_tree.specs.declared.rows.Kind.{Kind}
 use Rattle.sym_state.specs.Nodes.{Node, IsScriptAt, IsMemberAt}
-use Rattle.fork_tree.specs.Nodes.{IsLeastAt}
 use Rattle.fork_tree.specs.Marks.{Words, Marks}
-use Rattle.fork_tree.specs.Tree.{Leaf, Whole, kind_of, Turn, Goes, EndsBy, Forks, Turns, Branch, Under, Dead, Tree, End, Pass, Split, Below, IsTree, leaves}
+use Rattle.fork_tree.specs.Tree.{Leaf, kind_of, Goes, EndsBy, Forks, Branch, Under, Dead, Tree, End, Pass, Split, Below, IsTree, leaves}
 use Rattle.fork_tree.specs.Covers.{Covers}
 use Rattle.fork_tree.specs.Order.{PrintsLeast, Prints, PrintsItsLeast, EachLeaf, TellsRuns, TellsOutcome}
 use Rattle.fork_tree.specs.code.Known.{Known}

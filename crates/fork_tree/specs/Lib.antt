@@ -4,4 +4,5 @@ pub mod ShownTerms
 pub mod Tree
 pub mod Covers
 pub mod Order
+pub mod Refutations
 pub mod code

@@ -1,6 +1,5 @@
 -- The order of rows, and what a row prints.
 use Rattle.std.specs.Prelude.{◌⊎◌, ◌≡◌, ◌≢◌, ℕ, List, [], ◌∷◌}
-use Rattle.wasm_ast.specs.declared.runs.Draw.{Draw}
 use Rattle.wasm_ast.specs.declared.runs.Outcome.{Outcome}
 use Rattle.wasm_ast.specs.declared.runs.Outcome.TheVariants.{Assumes as AssumeFailed}
 use Rattle.wasm_reduction.specs.Scripts.{Script, Finished, drawn, told, as_input, without_numbers}

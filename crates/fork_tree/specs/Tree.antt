@@ -1,11 +1,11 @@
 -- The tree of paths: how a node goes on, forks or is a row, and which rows there are below it.
-use Rattle.std.specs.Prelude.{◌≡◌, ◌⊎◌, ℕ, Bool, true, false, not, ◌==◌, nat_lt, if◌then◌else◌, List, [], ◌∷◌, ◌++◌, length, map}
+use Rattle.std.specs.Prelude.{◌≡◌, ◌⊎◌, ℕ, Bool, true, false, not, ◌==◌, nat_lt, if◌then◌else◌, List, [], ◌∷◌, ◌++◌, length}
 use Rattle.wasm_ast.specs.declared.runs.Draw.{Draw}
 use Rattle.wasm_ast.specs.declared.runs.Outcome.{Outcome}
 use Rattle.wasm_ast.specs.declared.runs.Outcome.TheVariants.{Returns as Returned, Traps as Trapped, Fails as Failed, Assumes as AssumeFailed, Bound as BoundReached, Deep as TooDeep}
 use Rattle.bv_terms.specs.Terms.{is_number}
 use Rattle.wasm_reduction.specs.Configurations.{Test, Pick, Assume}
-use Rattle.wasm_reduction.specs.Scripts.{Script, Finished, Asked, drawn}
+use Rattle.wasm_reduction.specs.Scripts.{Script, Finished, Asked}
 use Rattle.fork_tree.specs.declared.rows.Kind.{Kind}
 use Rattle.fork_tree.specs.declared.rows.Kind.TheVariants.{Returns, Traps, Fails, Bound, Deep, Cut, Undecided, Void}
 use Rattle.fork_tree.specs.declared.rows.Row.{Row}

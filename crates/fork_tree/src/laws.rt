@@ -1,9 +1,13 @@
 // Laws of the tree of paths.
-ghost use Rattle.std.specs.Prelude.{◌≡◌, ℕ, List};
+ghost use Rattle.std.specs.Prelude.{◌≡◌, ℕ, Bool, List};
 ghost use Rattle.wasm_reduction.specs.Runs.{MeetsAssumptions};
 ghost use Rattle.sym_state.specs.Nodes.{Invocation, CanExplore, Node, root};
 ghost use Rattle.fork_tree.specs.declared.rows.Row.{Row as OneRow};
-ghost use Rattle.fork_tree.specs.Marks.{Words, Marks};
+ghost use Rattle.refute_check.specs.declared.refutation.Refutation.{Refutation};
+ghost use Rattle.wasm_reduction.specs.Scripts.{Script, drawn, widths};
+ghost use Rattle.fork_tree.specs.Marks.{Words, Marks, AreWords, AreMarks};
+ghost use Rattle.fork_tree.specs.Nodes.{IsLeastAt, Query};
+ghost use Rattle.fork_tree.specs.Refutations.{IsBelow, IsLeftOut, IsRefutedBy, side_conditions};
 ghost use Rattle.fork_tree.specs.Tree.{Rows, IsTree, Tree, leaves, rows_of};
 ghost use Rattle.fork_tree.specs.Covers.{Covers, OneOf, OneAtMost};
 ghost use Rattle.fork_tree.specs.Order.{Rising, EachLeaf, PrintsItsLeast, TellsOutcome};
@@ -35,4 +39,14 @@ pub fn rows_print_the_least()
 /// input that it prints has exactly the row's outcome and draws, so that the row can be replayed.
 pub fn rows_tell_their_runs()
     ensures { (words : Words) (marks : Marks) (F : ℕ) (i : Invocation) (t : Tree) → CanExplore i → IsTree words marks F t (root i) → EachLeaf TellsOutcome (leaves t) }
+{}
+
+/// At the root and at every node below it, the side that is left out of a question about a term, a test or a pick, or an assume
+/// that no member meets, is refuted: the clause machine refutes the formula of the node's conditions with that of the side, and
+/// its log is accepted.
+pub fn left_out_sides_are_refuted()
+    ensures { (words : Words) (marks : Marks) (F bound : ℕ) (i : Invocation) → CanExplore i → AreWords i words → AreMarks words bound marks
+        → (nodes : List Node) (n : Node) → IsBelow words marks F nodes (root i) n
+        → (left : Script) → IsLeastAt n left → (q : Query) (side : Bool) → IsLeftOut words marks n left q side
+        → (refutation : Refutation) × IsRefutedBy (side_conditions words n q side) (widths (drawn left)) bound refutation }
 {}

@@ -1,6 +1,6 @@
 -- The words of a run over terms: their widths, and their symbols.
 use Rattle.std.proofs.Common.{◌≡◌, ℕ, zero, suc, List, [], ◌∷◌, ◌++◌, All, length, refl, subst, inl, inr, ⊎_elim}
-use Rattle.std.specs.Prelude.{◌⊎◌, Bool, true, false, if◌then◌else◌, Option, Some, None, slice_get, nat_lt, nat_le, ◌&&◌, Result, Ok, Err}
+use Rattle.std.specs.Prelude.{Bool, true, false, if◌then◌else◌, Option, Some, None, slice_get, nat_lt, nat_le, ◌&&◌, Result, Ok, Err}
 use Rattle.std.specs.List.{AllByRecursion}
 use Rattle.std.proofs.lemmas.List.Elements.{All-weaker, All-head, All-tail}
 use Rattle.wasm_ast.specs.declared.modules.Module.{Module}
@@ -57,7 +57,7 @@ get-next [] wide = refl
 get-next (d ∷ draws) wide = get-next draws wide
 
 mutual
-  symbols-more : (draws more : List Bool) (t : Term) → HasSymbols draws t → HasSymbols (draws ++ more) t
+  pub symbols-more : (draws more : List Bool) (t : Term) → HasSymbols draws t → HasSymbols (draws ++ more) t
   symbols-more draws more (Number n) h = tt
   symbols-more draws more (Symbol k wide) h = get-more draws more k wide h
   symbols-more draws more (Unary op a) h = symbols-more draws more a h

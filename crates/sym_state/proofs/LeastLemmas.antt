@@ -1,5 +1,5 @@
 -- The least input that meets conditions is the least of what members draw.
-use Rattle.std.proofs.Common.{◌≡◌, ◌⊎◌, inl, inr, ⊎_elim, ℕ, zero, suc, ◌+◌, ◌%◌, ◌^◌, ◌≤◌, List, [], ◌∷◌, ◌++◌, length, refl, sym, ap, ◌∙◌, subst, append_assoc, append-nil, length-append, arith}
+use Rattle.std.proofs.Common.{◌≡◌, inl, inr, ⊎_elim, ℕ, zero, suc, ◌+◌, ◌%◌, ◌^◌, ◌≤◌, List, [], ◌∷◌, ◌++◌, length, refl, sym, ap, ◌∙◌, subst, length-append, arith}
 use Rattle.std.specs.Prelude.{Bool, true, false, ◌&&◌, nat_lt, nat_le, if◌then◌else◌, Option, Some, None, slice_index}
 use Rattle.std.specs.List.{AllByRecursion}
 use Rattle.wasm_ast.specs.declared.runs.Draw.{Draw}
@@ -53,26 +53,26 @@ module _ (n : Node) where
       at (On g) = turn-extends g
       at (Over halt trace) = extends-self trace.symbols
 
-  later-extends : (k d : ℕ) → Extends (symbols (over_terms n k)) (symbols (over_terms n (d + k)))
+  pub later-extends : (k d : ℕ) → Extends (symbols (over_terms n k)) (symbols (over_terms n (d + k)))
   later-extends k zero = subst (λ j. Extends (symbols (over_terms n k)) (symbols (over_terms n j))) (let none : k ≡ zero + k = omega arith in none) (extends-self (symbols (over_terms n k)))
   later-extends k (suc d) =
       subst (λ j. Extends (symbols (over_terms n k)) (symbols (over_terms n j))) (let next : suc (d + k) ≡ suc d + k = omega arith in next)
       (extends-more (symbols (over_terms n k)) (symbols (over_terms n (d + k))) (symbols (over_terms n (suc (d + k)))) (later-extends k d) (next-extends (d + k)))
 
-  stays : (k d : ℕ) (halt : Halt Term) (trace : Trace) → over_terms n k ≡ Over halt trace → over_terms n (d + k) ≡ Over halt trace
+  pub stays : (k d : ℕ) (halt : Halt Term) (trace : Trace) → over_terms n k ≡ Over halt trace → over_terms n (d + k) ≡ Over halt trace
   stays k zero halt trace e = ap (λ j. over_terms n j) (let none : zero + k ≡ k = omega arith in none) ∙ e
   stays k (suc d) halt trace e =
       ap (λ j. over_terms n j) (let next : suc d + k ≡ suc (d + k) = omega arith in next)
       ∙ turn-next n.invocation n.answers (d + k)
       ∙ ap (λ x. then_follow x (follow terms terms.symbol (by_list n.answers) n.invocation.«module» n.invocation.steps)) (stays k d halt trace e)
 
-over-of : (h : Term → ℕ) (x : Turned Term) (halt : Halt ℕ) (trace : Trace) → turned_image h x ≡ Over halt trace → (k : Halt Term) × (x ≡ Over k trace)
+pub over-of : (h : Term → ℕ) (x : Turned Term) (halt : Halt ℕ) (trace : Trace) → turned_image h x ≡ Over halt trace → (k : Halt Term) × (x ≡ Over k trace)
 over-of h (On g) halt trace e = absurd cc
 over-of h (Over k t) halt trace e =
     let both : Over (halt_image h k) t ≡ Over halt trace = e in
     (k, ap (λ t. Over k t) cc)
 
-first-drawn : (I : List ℕ) (halt : Halt ℕ) (trace : Trace) (s : Script) → IsFirst I halt trace s → draws_from I 0 trace.symbols ≡ drawn s
+pub first-drawn : (I : List ℕ) (halt : Halt ℕ) (trace : Trace) (s : Script) → IsFirst I halt trace s → draws_from I 0 trace.symbols ≡ drawn s
 first-drawn I halt trace (Finished o d) f = f.1
 first-drawn I halt trace (Asked q v d s) f = f.1
 

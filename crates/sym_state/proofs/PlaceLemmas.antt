@@ -1,15 +1,15 @@
 -- Places of runs, and what answers make of them.
-use Rattle.std.proofs.Common.{◌≡◌, ℕ, suc, ◌+◌, List, [], ◌∷◌, ◌++◌, length, refl, sym, ap, ◌∙◌, subst, length-append}
+use Rattle.std.proofs.Common.{◌≡◌, ℕ, zero, suc, ◌+◌, List, [], ◌∷◌, ◌++◌, length, refl, sym, ap, ◌∙◌, subst, length-append}
 use Rattle.std.specs.Prelude.{Some, slice_get}
 use Rattle.wasm_reduction.specs.Configurations.{Question}
 use Rattle.wasm_reduction.specs.Steps.{answered}
-use Rattle.wasm_reduction.specs.Runs.{Going, Stands, Ended, Bound, Deep, Turned, On, Over, by_list, runs, started, follow, follow_by, follows, replied, then_follow}
+use Rattle.wasm_reduction.specs.Runs.{Going, Stands, Ended as RunEnded, Bound, Deep, Turned, On, Over, by_list, runs, started, follow, follow_by, follows, replied, then_follow}
 use Rattle.wasm_reduction.specs.RunImages.{IsAnswered, trace_of}
 use Rattle.wasm_reduction.proofs.ListedRuns.{follows-next, runs-longer, turn-asks}
 use Rattle.bv_terms.specs.Terms.{Term}
 use Rattle.bv_terms.specs.Making.{terms}
 use Rattle.sym_state.specs.Nodes.{Invocation, CanExplore, Node}
-use Rattle.sym_state.specs.States.{Stage, Running, Unbegun, Path, over_terms, IsAt, units_of, IsPlace, IsAtQuestion, answered_stage}
+use Rattle.sym_state.specs.States.{Stage, Running, Ended, Path, over_terms, IsAt, units_in, units_at, IsPlace, IsAtQuestion, answered_stage}
 use Rattle.sym_state.proofs.ValueLemmas.{place-values}
 
 -- the run over terms of an invocation that has these answers
@@ -19,11 +19,20 @@ over i A turns = runs terms terms.symbol (by_list A) i.«module» i.entry i.args
 pub at-answered : (s : Stage) (x : Turned Term) → IsAt s x → IsAnswered x
 at-answered (Running c) (On g) h = tt
 at-answered (Running c) (Over halt trace) h = absurd h
-at-answered (Unbegun e) (On g) h = absurd h
-at-answered (Unbegun e) (Over (Stands q w) trace) h = absurd h
-at-answered (Unbegun e) (Over (Ended f) trace) h = tt
-at-answered (Unbegun e) (Over Bound trace) h = absurd h
-at-answered (Unbegun e) (Over Deep trace) h = absurd h
+at-answered (Ended e) (On g) h = absurd h
+at-answered (Ended e) (Over (Stands q w) trace) h = absurd h
+at-answered (Ended e) (Over (RunEnded f) trace) h = tt
+at-answered (Ended e) (Over Bound trace) h = absurd h
+at-answered (Ended e) (Over Deep trace) h = absurd h
+
+-- runs that come to the same have spent the same
+pub units-alike : (n m : Node) → ((k : ℕ) → over_terms m k ≡ over_terms n k) → (turns : ℕ) → units_at m turns ≡ units_at n turns
+units-alike n m e zero = ap (λ x. units_in x 0) (e zero)
+units-alike n m e (suc k) = ap (λ x. units_in x (units_at m k)) (e (suc k)) ∙ ap (units_in (over_terms n (suc k))) (units-alike n m e k)
+
+pub units-on : (n : Node) (turns : ℕ) (g : Going Term) → over_terms n turns ≡ On g → units_at n turns ≡ g.config.units
+units-on n zero g e = ap (λ x. units_in x 0) e
+units-on n (suc k) g e = ap (λ x. units_in x (units_at n k)) e
 
 -- the path of a place of one node is at a place of another that has the same answers
 pub same-place : (n m : Node) (p r : Path) → CanExplore m.invocation → m.invocation ≡ n.invocation → m.answers ≡ n.answers
@@ -38,7 +47,7 @@ same-place n m p r can same answers stage draws asks units h =
       values = λ I member. place-values m can I h.turns member (at-answered r.stage (over_terms m h.turns) here);
       draws = draws ∙ h.draws ∙ ap (λ x. (trace_of x).symbols) (sym alike);
       asks = asks ∙ h.asks ∙ ap (λ l. length l) (sym answers);
-      units = units ∙ h.units ∙ ap units_of (sym stage);
+      units = units ∙ h.units ∙ sym (units-alike n m (λ k. ap (λ i. over i m.answers k) same ∙ ap (λ A. over n.invocation A k) answers) h.turns);
     }
 
 get-last : (A : List ℕ) (a : ℕ) → slice_get (A ++ a ∷ []) (length A) ≡ Some a
@@ -90,15 +99,15 @@ answered-place n m p r q t a can same answers stage draws asks units h question 
           values = λ I member. place-values m can I (suc h.turns) member (at-answered r.stage (over_terms m (suc h.turns)) here);
           draws = draws ∙ h.draws ∙ ap (λ x. (trace_of x).symbols) e ∙ ap (λ x. (trace_of x).symbols) (sym alike);
           asks = asks ∙ ap (λ k. k + 1) h.asks ∙ sym (length-append n.answers (a ∷ [])) ∙ ap (λ l. length l) (sym answers);
-          units = units ∙ h.units ∙ ap units_of s ∙ ap units_of (sym stage_is);
+          units = units ∙ h.units ∙ units-on n h.turns g e ∙ sym (units-on m (suc h.turns) (with_answer n.invocation g a) alike);
         }
     go (Running c) (Over halt trace) s e at = absurd at
-    go (Unbegun e) (On g) s is at = absurd at
-    go (Unbegun e) (Over (Stands p w) trace) s is at = absurd at
-    go (Unbegun e) (Over (Ended f) trace) s is at =
-        let over_is : over_terms n (suc h.turns) ≡ Over (Ended f) trace =
+    go (Ended e) (On g) s is at = absurd at
+    go (Ended e) (Over (Stands p w) trace) s is at = absurd at
+    go (Ended e) (Over (RunEnded f) trace) s is at =
+        let over_is : over_terms n (suc h.turns) ≡ Over (RunEnded f) trace =
         turn-next n.invocation n.answers h.turns ∙ ap (λ x. then_follow x (follow terms terms.symbol (by_list n.answers) n.invocation.«module» n.invocation.steps)) is in
-        let both : Over (Stands q t) (trace_of (over_terms n h.turns)) ≡ Over (Ended f) trace = sym question ∙ over_is in
+        let both : Over (Stands q t) (trace_of (over_terms n h.turns)) ≡ Over (RunEnded f) trace = sym question ∙ over_is in
         absurd cc
-    go (Unbegun e) (Over Bound trace) s is at = absurd at
-    go (Unbegun e) (Over Deep trace) s is at = absurd at
+    go (Ended e) (Over Bound trace) s is at = absurd at
+    go (Ended e) (Over Deep trace) s is at = absurd at

@@ -1,6 +1,6 @@
 -- Nodes of the tree of a run on all inputs at once: what a run has been answered so far, and which inputs are answered so. They are
 -- defined by the bounded runs of single inputs alone.
-use Rattle.std.specs.Prelude.{◌≡◌, ◌≢◌, ◌⊎◌, ℕ, ◌<◌, Bool, true, false, List, [], ◌∷◌, All}
+use Rattle.std.specs.Prelude.{◌≡◌, ◌≢◌, ◌⊎◌, ℕ, ◌<◌, ◌≤◌, Bool, true, false, List, [], ◌∷◌, All}
 use Rattle.wasm_ast.specs.declared.modules.Module.{Module}
 use Rattle.wasm_ast.specs.declared.runs.Value.{Value}
 use Rattle.wasm_soundness.specs.Laws.{CanBeRun, Fit}
@@ -16,12 +16,19 @@ pub record Invocation : Type 0 where
   pub args : List Value
   pub steps : ℕ
 
--- The module is well-formed, valid and ready, the arguments fit the function, and all their numbers are those of their types.
+-- the most units that a run may be given
+abbrev pub most_steps : ℕ
+most_steps = 10000000
+
+-- The module is well-formed, valid and ready, the arguments fit the function, all their numbers are those of their types, and the
+-- bound on steps is one that a run may have.
 pub record CanExplore (i : Invocation) : Type 0 where
   pub can : CanBeRun i.«module»
   pub fit : Fit i.«module» i.entry i.args
   pub has_numbers : HasNumbers i.«module»
   pub fitting : All ArgumentFits i.args
+  pub some : 1 ≤ i.steps
+  pub few : i.steps ≤ most_steps
 
 -- ---- conditions
 

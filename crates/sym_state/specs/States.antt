@@ -1,8 +1,8 @@
 -- What the state of a path stands for: a node, at a place of the runs of all its members at once.
-use Rattle.std.specs.Prelude.{◌≡◌, ◌↔◌, ℕ, suc, ◌+◌, Bool, true, List, [], ◌∷◌, ◌++◌, length, slice_index}
+use Rattle.std.specs.Prelude.{◌≡◌, ◌↔◌, ℕ, zero, suc, ◌+◌, Bool, true, List, [], ◌∷◌, ◌++◌, length, slice_index}
 use Rattle.wasm_reduction.specs.Configurations.{Config, End, Question}
 use Rattle.wasm_reduction.specs.Steps.{answered}
-use Rattle.wasm_reduction.specs.Runs.{Turned, On, Over, Ended, Bound, Deep, Stands, by_list, draws_from, runs, runs_at}
+use Rattle.wasm_reduction.specs.Runs.{Turned, On, Over, Ended as RunEnded, Bound, Deep, Stands, by_list, draws_from, runs, runs_at}
 use Rattle.wasm_reduction.specs.RunImages.{turned_image, trace_of}
 use Rattle.wasm_reduction.specs.Scripts.{as_input}
 use Rattle.bv_terms.specs.Terms.{Term, HasBits, HasSymbols, value_of}
@@ -12,10 +12,10 @@ use Rattle.sym_state.specs.NextNodes.{bit}
 
 -- ---- states of paths
 
--- Where a run on terms is: it goes on from a configuration, or it ended before there was one, as the module was instantiated.
+-- Where a run on terms is: it goes on from a configuration, or it has ended.
 pub data Stage : Type 0 where
   Running : Config Term → Stage
-  Unbegun : End Term → Stage
+  Ended : End Term → Stage
 
 -- the state of a path, its words read as terms
 pub record Path : Type 0 where
@@ -48,16 +48,21 @@ run_at n input turns = runs_at n.invocation.«module» n.invocation.entry n.invo
 abbrev pub IsAt : Stage → Turned Term → Type 0
 IsAt (Running c) (On g) = c ≡ g.config
 IsAt (Running c) (Over halt trace) = ⊥
-IsAt (Unbegun e) (On g) = ⊥
-IsAt (Unbegun e) (Over (Ended f) trace) = e ≡ f
-IsAt (Unbegun e) (Over (Stands q w) trace) = ⊥
-IsAt (Unbegun e) (Over Bound trace) = ⊥
-IsAt (Unbegun e) (Over Deep trace) = ⊥
+IsAt (Ended e) (On g) = ⊥
+IsAt (Ended e) (Over (RunEnded f) trace) = e ≡ f
+IsAt (Ended e) (Over (Stands q w) trace) = ⊥
+IsAt (Ended e) (Over Bound trace) = ⊥
+IsAt (Ended e) (Over Deep trace) = ⊥
 
--- the units that were spent; none before there is a configuration
-abbrev pub units_of : Stage → ℕ
-units_of (Running c) = c.units
-units_of (Unbegun e) = 0
+-- the units of a configuration; where the run is over, those that were spent before
+abbrev pub units_in : Turned Term → ℕ → ℕ
+units_in (On g) before = g.config.units
+units_in (Over halt trace) before = before
+
+-- the units that were spent after so many turns; none before there is a configuration
+abbrev pub units_at : Node → ℕ → ℕ
+units_at n zero = units_in (over_terms n zero) 0
+units_at n (suc turns) = units_in (over_terms n (suc turns)) (units_at n turns)
 
 -- The path is at a place of the runs of a node's members, after its answers and up to the next question or the end.
 pub record IsPlace (n : Node) (p : Path) : Type 0 where
@@ -70,7 +75,7 @@ pub record IsPlace (n : Node) (p : Path) : Type 0 where
   -- and so are its counts
   pub draws : p.draws ≡ (trace_of (over_terms n turns)).symbols
   pub asks : p.asks ≡ length n.answers
-  pub units : p.units ≡ units_of p.stage
+  pub units : p.units ≡ units_at n turns
 
 -- ---- the two parts
 
@@ -130,7 +135,7 @@ supposed p t input = record p { conditions = p.conditions ++ (t, true) ∷ []; l
 -- the answer is noted, and the question is one more that was asked and answered
 abbrev pub answered_stage : Stage → ℕ → Stage
 answered_stage (Running c) answer = Running (answered c answer)
-answered_stage (Unbegun e) answer = Unbegun e
+answered_stage (Ended e) answer = Ended e
 
 abbrev pub resumed : Path → ℕ → Path
 resumed p answer = record p { stage = answered_stage p.stage answer; asks = p.asks + 1 }

@@ -1,5 +1,5 @@
 -- What a turn does with the members of its node.
-use Rattle.std.specs.Prelude.{◌⊎◌, ◌≡◌, ◌≢◌, ℕ, List, [], ◌∷◌, ◌++◌, Bool, true, false}
+use Rattle.std.specs.Prelude.{◌⊎◌, ◌≡◌, ◌≢◌, ℕ, List, Bool, true}
 use Rattle.wasm_ast.specs.declared.runs.Outcome.TheVariants.{Assumes as AssumeFailed}
 use Rattle.wasm_reduction.specs.Configurations.{Question, Test, Pick, Assume}
 use Rattle.wasm_reduction.specs.Scripts.{Script, told}

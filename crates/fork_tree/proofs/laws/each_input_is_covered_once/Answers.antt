@@ -1,4 +1,3 @@
-use Rattle.std.proofs.Common.{refl}
 use Rattle.sym_state.specs.Nodes.{root}
 use Rattle.fork_tree.proofs.Covering.{once, covered}
 use Rattle.fork_tree.proofs.Knowing.{knows, meets, in-root}
