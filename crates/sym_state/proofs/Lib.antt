@@ -7,3 +7,8 @@ pub mod SideLemmas
 pub mod ExampleNodes
 pub mod DrawnLemmas
 pub mod LeastLemmas
+pub mod GivenLemmas
+pub mod FieldLemmas
+pub mod SplitLemmas
+pub mod StartLemmas
+pub mod CellLemmas
