@@ -1,5 +1,5 @@
 // A chunk of cells.
-ghost use Rattle.std.specs.Prelude.{◌≡◌, ◌+◌, ◌<◌, ◌≤◌, IfOk, OnOk, OnErr, Some, length, replicate, slice_get};
+ghost use Rattle.std.specs.Prelude.{◌≡◌, ◌+◌, ◌<◌, ◌≤◌, IfOk, OnOk, OnErr, Some, length, replicate, slice_get, slice_set};
 ghost use Rattle.std.specs.Arc.{arc_value};
 ghost use Rattle.cow_pages.specs.Cells.{written, part};
 ghost use Rattle.cow_pages.specs.code.Chunks.{chunk_cells};
@@ -83,13 +83,73 @@ impl Chunk {
         }
     }
 
-    // A chunk of its own, in which cells are written from a place on.
+    /// A cell is written. Where the chunk is shared it is copied first.
+    #[inline]
+    pub fn set(&mut self, alloc: Global, at: usize, cell: u64) -> Result<(), AllocError>
+        requires { at < chunk_cells }
+        ensures set { OnOk result (self.new ≡ slice_set self.old at cell) }
+        ensures refused { OnErr result (self.new ≡ self.old) }
+    {
+        match Arc::get_mut(&mut self.cells) {
+            Some(own) => {
+                own[at] = cell;
+                Ok(())
+            }
+            None => {
+                let copy = self.copied(alloc, at, &[cell])?;
+                *self = copy;
+                Ok(())
+            }
+        }
+    }
+
+    /// One cell is written to each place of a range. Where the chunk is shared it is copied first.
+    pub fn fill(
+        &mut self,
+        alloc: Global,
+        at: usize,
+        count: usize,
+        cell: u64,
+    ) -> Result<(), AllocError>
+        requires { at + count ≤ chunk_cells }
+        ensures filled { OnOk result (self.new ≡ written at (replicate count cell) self.old) }
+        ensures refused { OnErr result (self.new ≡ self.old) }
+    {
+        match Arc::get_mut(&mut self.cells) {
+            Some(own) => {
+                own[at..at + count].fill(cell);
+                Ok(())
+            }
+            None => {
+                let copy = self.filled(alloc, at, count, cell)?;
+                *self = copy;
+                Ok(())
+            }
+        }
+    }
+
+    // A chunk of its own, in which cells are written from a place on. As a large array is cleared where its function begins, this
+    // one stands apart from its callers, and so do all that have one.
+    #[inline(never)]
     fn copied(&self, alloc: Global, at: usize, cells: &[u64]) -> Result<Chunk, AllocError>
         requires { at + length cells.now ≤ chunk_cells }
         ensures { IfOk result (λ c. c ≡ written at cells.now self.now) }
     {
         let mut own = *self.cells;
         own[at..at + cells.len()].copy_from_slice(cells);
+        Ok(Chunk {
+            cells: Arc::new(alloc, own)?,
+        })
+    }
+
+    // A chunk of its own, in which one cell is written to each place of a range.
+    #[inline(never)]
+    fn filled(&self, alloc: Global, at: usize, count: usize, cell: u64) -> Result<Chunk, AllocError>
+        requires { at + count ≤ chunk_cells }
+        ensures { IfOk result (λ c. c ≡ written at (replicate count cell) self.now) }
+    {
+        let mut own = *self.cells;
+        own[at..at + count].fill(cell);
         Ok(Chunk {
             cells: Arc::new(alloc, own)?,
         })

@@ -4,7 +4,7 @@ ghost use Rattle.cow_pages.specs.Cells.{written, part};
 ghost use Rattle.cow_pages.specs.code.Chunks.{ZerosAdded, chunk_cells};
 
 use crate::chunk::{CHUNK, Chunk};
-use crate::ranges::{Source, put, share_all};
+use crate::ranges::{Source, put, put_cell, share_all};
 use std::alloc::{AllocError, Global};
 use std::marker::Model;
 
@@ -66,7 +66,9 @@ impl Pages {
         ensures set { OnOk result (self.new ≡ slice_set self.old at cell) }
         ensures refused { OnErr result (self.new ≡ self.old) }
     {
-        self.write(at, &[cell])
+        let chunks = self.chunks.as_mut_slice();
+        put_cell(self.alloc, chunks, at as usize, cell)?;
+        Ok(())
     }
 
     /// So many more cells of 0, at the end.

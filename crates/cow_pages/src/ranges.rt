@@ -1,5 +1,5 @@
 // Chunks side by side, and what is written over a range of their cells.
-ghost use Rattle.std.specs.Prelude.{◌≡◌, ◌+◌, ◌*◌, ◌-◌, ◌%◌, ◌<◌, ◌≤◌, ◌/◌, ◌^◌, IfOk, OnOk, OnErr, length};
+ghost use Rattle.std.specs.Prelude.{◌≡◌, ◌+◌, ◌*◌, ◌-◌, ◌%◌, ◌<◌, ◌≤◌, ◌/◌, ◌^◌, [], ◌∷◌, IfOk, OnOk, OnErr, length};
 ghost use Rattle.cow_pages.specs.Cells.{written, part};
 ghost use Rattle.cow_pages.specs.code.Chunks.{chunk_cells, AreWhole, FitsSource, Writes, cells_of, source_cells};
 
@@ -60,6 +60,7 @@ fn take_piece(chunks: &[Chunk], source: &Source, count: usize, done: usize, out:
 }
 
 // The chunks that have one of so many places, from a place on, as they are once the source is written there.
+#[inline(never)]
 fn make(
     alloc: Global,
     chunks: &[Chunk],
@@ -101,6 +102,19 @@ fn commit(chunks: &mut [Chunk], first: usize, mut made: Vec<Chunk>)
     }
 }
 
+/// A cell is written, in place where its chunk has one owner.
+#[inline]
+pub fn put_cell(alloc: Global, chunks: &mut [Chunk], at: usize, cell: u64) -> Result<(), AllocError>
+    requires whole { AreWhole chunks.old }
+    requires within { at < chunk_cells * length chunks.old }
+    ensures written { OnOk result (Writes chunks.old at (cell ∷ []) chunks.new) }
+    ensures refused { OnErr result (chunks.new ≡ chunks.old) }
+    ensures long { length chunks.new ≡ length chunks.old }
+{
+    chunks[at / CHUNK].set(alloc, at % CHUNK, cell)?;
+    Ok(())
+}
+
 /// A source is written over so many cells, from a place on. A range in one chunk is written in place; one that lies in several
 /// is made aside first, so that a refusal leaves all as it was.
 pub fn put(
@@ -126,6 +140,10 @@ pub fn put(
             chunks[at / CHUNK].write(alloc, at % CHUNK, cells)?;
             return Ok(());
         }
+        if let Source::Cell(cell) = source {
+            chunks[at / CHUNK].fill(alloc, at % CHUNK, count, *cell)?;
+            return Ok(());
+        }
         return put_in_chunk(alloc, chunks, at, count, source);
     }
     let made = make(alloc, chunks, at, count, source)?;
@@ -134,6 +152,7 @@ pub fn put(
 }
 
 // A range that lies in one chunk.
+#[inline(never)]
 fn put_in_chunk(
     alloc: Global,
     chunks: &mut [Chunk],
