@@ -1,0 +1,3 @@
+pub mod Noting
+pub mod Firsts
+pub mod Spaces
