@@ -25,6 +25,7 @@ use Rattle.sym_state.specs.States.{HasOver, over_terms}
 use Rattle.sym_state.proofs.DrawnLemmas.{asked-held, symbols-more}
 use Rattle.sym_state.proofs.LeastLemmas.{over-of, stays, later-extends, first-drawn}
 use Rattle.sym_state.proofs.PlaceLemmas.{over, turn-next}
+use Rattle.sym_state.proofs.QuestionTurns.{Before}
 use Rattle.sym_state.proofs.ValueLemmas.{listed, members-ask, keeps-operations}
 use Rattle.fork_tree.specs.Marks.{Words, AreWords, differs_from}
 
@@ -81,29 +82,7 @@ known-term words n can are I q v d rest at =
       held = subst (λ draws. HasOver draws 32 t) a.1.symbols (asked-held n can q t a.1.turns a.1.trace a.1.stands);
     })
 
--- ---- the turn before
-
--- a run that stands at a question had drawn as much the turn before, when it didn't
-pub record Before (n : Node) (symbols : List Bool) : Type 0 where
-  pub turns : ℕ
-  pub answered : IsAnswered (over_terms n turns)
-  pub drawn : (trace_of (over_terms n turns)).symbols ≡ symbols
-
-start-asks : (r : Result (Config Term) (End Term)) (go : Going Term → Turned Term) → ((g : Going Term) → go g ≡ On g) → (q : Question) (t : Term) (trace : Trace) → then_follow (started_by r) go ≡ Over (Stands q t) trace → ⊥
-start-asks (Ok c) go h q t trace e = let f : On (record { config = c; trace = no_trace }) ≡ Over (Stands q t) trace = sym (h (record { config = c; trace = no_trace })) ∙ e in cc
-start-asks (Err x) go h q t trace e = cc
-
-pub turn-before : (n : Node) (k : ℕ) (q : Question) (t : Term) (trace : Trace) → over_terms n k ≡ Over (Stands q t) trace → Before n trace.symbols
-turn-before n zero q t trace e =
-    let i = n.invocation in
-    absurd (start-asks (first_config terms i.«module» i.entry i.args) (follows terms terms.symbol (by_list n.answers) i.«module» i.steps zero) (λ g. refl) q t trace e)
-turn-before n (suc k) q t trace e = at (λ f. turn-before n k q t trace f) (over_terms n k) refl (sym (turn-next n.invocation n.answers k) ∙ e)
-  where
-    at : (over_terms n k ≡ Over (Stands q t) trace → Before n trace.symbols) → (x : Turned Term) → over_terms n k ≡ x → then_follow x (follow terms terms.symbol (by_list n.answers) n.invocation.«module» n.invocation.steps) ≡ Over (Stands q t) trace → Before n trace.symbols
-    at earlier (On g) is f =
-        let asks = turn-asks terms terms.symbol n.invocation.«module» n.invocation.steps n.answers g q t trace f in
-        record { turns = k; answered = subst (λ x. IsAnswered x) (sym is) tt; drawn = ap (λ x. (trace_of x).symbols) is ∙ ap (λ t. t.symbols) asks.1 }
-    at earlier (Over halt was) is f = earlier (is ∙ f)
+-- ---- later draws
 
 -- a member of a node that has more answers has drawn more
 pub drawn-more : (n m : Node) → CanExplore m.invocation → m.invocation ≡ n.invocation → (more : List ℕ) → m.answers ≡ n.answers ++ more → (symbols : List Bool) → Before n symbols

@@ -18,6 +18,7 @@ use Rattle.sym_state.specs.Nodes.{Condition, IsMet, AreMet, Invocation, CanExplo
 use Rattle.sym_state.specs.NextNodes.{bit, Begins, MembersAsk, MembersAnswer, IsExact, IsOther, gone_on, assumed}
 use Rattle.sym_state.proofs.ExactLemmas.{root-exact, test-exact, assume-exact, pick-exact, other-exact, goes-exact}
 use Rattle.sym_state.proofs.MemberLemmas.{met-less}
+use Rattle.sym_state.proofs.QuestionTurns.{Before, turn-before}
 use Rattle.fork_tree.specs.Nodes.{IsLeastAt, IsLeastPick, Query, OfTest, OfPick, AsksOf, is_true, side_of, NoneAnswers}
 use Rattle.fork_tree.specs.Marks.{Words, AreWords, Marks, AreMarks, Exactly, OnTerm, IsSpent, IsOtherSpent, condition_of, condition_at, differs_from}
 use Rattle.fork_tree.specs.Tree.{child, passed, met, beside, leaf, Nobody, Under, Turn, Goes, EndsBy, Forks, Either, Queries, Assuming, Does, Turns}
@@ -27,7 +28,7 @@ use Rattle.fork_tree.specs.Refutations.{ComesOf, IsBelow, side_conditions, IsLef
 use Rattle.fork_tree.specs.code.Parts.{Fits}
 use Rattle.fork_tree.proofs.Same.{if-elim}
 use Rattle.fork_tree.proofs.Sides.{bit-true, same-false}
-use Rattle.fork_tree.proofs.AskedTerms.{KnownTerm, known-term, Before, turn-before, drawn-more, proper, proper-more, differs-held, differs-other, differs-no-number}
+use Rattle.fork_tree.proofs.AskedTerms.{KnownTerm, known-term, drawn-more, proper, proper-more, differs-held, differs-other, differs-no-number}
 
 -- what is known of a node of the tree
 pub record IsKnown (words : Words) (n : Node) : Type 0 where

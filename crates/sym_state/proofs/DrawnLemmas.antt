@@ -91,7 +91,7 @@ module _ (P Q : ℕ → Term → Type 0) (f : (bits : ℕ) (t : Term) → P bits
   frames-wider [] h = tt
   frames-wider (x ∷ xs) h = (frame-wider x h.0, frames-wider xs h.1)
 
-  config-wider : (c : Config Term) → HasWidths P c → HasWidths Q c
+  pub config-wider : (c : Config Term) → HasWidths P c → HasWidths Q c
   config-wider c h = record {
     store = record {
       globals = values-wider c.store.globals h.store.globals;

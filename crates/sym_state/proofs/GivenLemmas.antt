@@ -35,7 +35,7 @@ twice : (n : ℕ) (wide : Bool) (I : List ℕ) (k : ℕ) (L : List ℕ) (j : ℕ
 twice n true I k L j e = ap (λ v. v % 2 ^ 64) e ∙ omega arith
 twice n false I k L j e = ap (λ v. v % 2 ^ 32) e ∙ omega arith
 
-taken-again : (I L : List ℕ) (k : ℕ) (draws : List Bool) → ((j : ℕ) → slice_index L (k + j) ≡ slice_index (as_input (draws_from I k draws)) j)
+pub taken-again : (I L : List ℕ) (k : ℕ) (draws : List Bool) → ((j : ℕ) → slice_index L (k + j) ≡ slice_index (as_input (draws_from I k draws)) j)
     → as_input (draws_from L k draws) ≡ as_input (draws_from I k draws)
 taken-again I L k [] same = refl
 taken-again I L k (wide ∷ draws) same =

@@ -12,3 +12,4 @@ pub mod FieldLemmas
 pub mod SplitLemmas
 pub mod StartLemmas
 pub mod CellLemmas
+pub mod QuestionTurns
